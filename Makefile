@@ -1,0 +1,10 @@
+# make run: prove and build the program, hold the worked dialogue with it, and print what it prints
+# make test: the gate
+
+.PHONY: run test
+run:
+	@rt check explore
+	@target/bin/explore < crates/explore/stdin
+
+test:
+	@tests/gate

@@ -1,0 +1,3 @@
+mod Lectic
+pub mod Numbers
+mod Text

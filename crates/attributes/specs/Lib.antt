@@ -1,0 +1,5 @@
+pub mod Sets
+pub mod Lectic
+pub mod Numbers
+pub mod Text
+pub mod Laws

@@ -1,0 +1,4 @@
+pub mod Dialogue
+pub mod Refusals
+pub mod Row
+pub mod Worked

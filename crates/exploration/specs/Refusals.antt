@@ -1,0 +1,25 @@
+-- The number and the place by which each refusal is told, and replies as text. Definitions only.
+use mathlib.Core.List.{List, _++_}
+use Prim.Native.Nat.{ℕ}
+use lib.Chars.{codes}
+use Rattle.std.specs.Written.{decimal}
+use Rattle.attributes.specs.Numbers.{set-in}
+use Rattle.attributes.specs.Text.{written}
+use Rattle.exploration.specs.declared.reply.Refusal.{Refusal}
+use Rattle.exploration.specs.declared.reply.Refusal.the-variants.{RowTooShort, TooManyAttributes}
+use Rattle.exploration.specs.declared.reply.Reply.{Reply}
+use Rattle.exploration.specs.declared.reply.Reply.the-variants.{Question, Finished, Refused}
+
+abbrev pub refusal-number : Refusal → ℕ
+refusal-number (RowTooShort length) = 1
+refusal-number TooManyAttributes = 2
+
+abbrev pub refusal-place : Refusal → ℕ
+refusal-place (RowTooShort length) = length
+refusal-place TooManyAttributes = 0
+
+abbrev pub reply-text : Reply → List ℕ
+reply-text (Question q) =
+    codes "all with " ++ (written (set-in 16 (q .premise .bits)) ++ (codes " have " ++ (written (set-in 16 (q .conclusion .bits)) ++ codes "?")))
+reply-text Finished = codes "finished"
+reply-text (Refused r) = codes "refused " ++ (decimal (refusal-number r) ++ (codes " at " ++ decimal (refusal-place r)))

@@ -1,0 +1,54 @@
+// Attribute exploration: the dialogue over lent memory.
+ghost use mathlib.Core.Path.{_≡_};
+ghost use Rattle.exploration.specs.Dialogue.{nothing-known, question};
+ghost use Rattle.exploration.specs.Row.{opening, opened, reply-of};
+ghost use Rattle.exploration.specs.Worked.{Worked-dialogue};
+use attributes::AttributeCount;
+use attributes::AttributeSet;
+use contexts::Implication;
+
+mod reply;
+
+pub use reply::Refusal;
+pub use reply::Reply;
+pub use reply::ReplyDisplay;
+
+// The numbers of a row: how many attributes there are, two counts, room for 4,096 implications of two sets each and for 4,096 examples.
+pub const ROW_LENGTH: usize = 12291;
+
+// Opens a row for an exploration of n attributes that knows nothing, and replies with its first question.
+pub fn open(known: &mut [u64], n: u64) -> Reply
+    ensures reply { λ r. ⌜ r ≡ opening n (now (known .entry)) ⌝ }
+    ensures after { λ r. ⌜ now (known .exit) ≡ opened n (now (known .entry)) ⌝ }
+{
+    if known.len() < ROW_LENGTH {
+        return Reply::Refused(Refusal::RowTooShort(known.len()));
+    }
+    let Some(count) = AttributeCount::new(n) else {
+        return Reply::Refused(Refusal::TooManyAttributes);
+    };
+    known[0] = n;
+    known[1] = 0;
+    known[2] = 0;
+    first_question(count)
+}
+
+// What is asked when nothing is known.
+fn first_question(n: AttributeCount) -> Reply
+    ensures { λ r. ⌜ r ≡ reply-of (question (n .value) nothing-known) ⌝ }
+{
+    if n.get() == 0 {
+        return Reply::Finished;
+    }
+    Reply::Question(Implication {
+        premise: AttributeSet::empty(),
+        conclusion: AttributeSet::everything(n),
+    })
+}
+
+// The worked dialogue, row by row, as the definitions have it.
+pub fn worked_dialogue() -> u8
+    ensures { λ _. ⌜ Worked-dialogue ⌝ }
+{
+    0
+}

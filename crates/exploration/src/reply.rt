@@ -1,0 +1,69 @@
+// What the entries reply.
+ghost use mathlib.Core.Path.{_≡_};
+ghost use Rattle.std.specs.declared.option.Option.the-variants.{Some};
+ghost use Rattle.exploration.specs.Refusals.{reply-text};
+ghost use Rattle.exploration.specs.Refusals.{refusal-number, refusal-place};
+use attributes::AttributeSetDisplay;
+use contexts::Implication;
+use std::fmt;
+
+// Why an entry refused. What is known is then as it was.
+#[derive(Clone, Copy)]
+pub enum Refusal {
+    // The lent row has this length, and that is too short.
+    RowTooShort(usize),
+    // There are more than twelve attributes.
+    TooManyAttributes,
+}
+
+impl Refusal {
+    // The number by which the refusal is told.
+    pub fn number(self) -> u64
+        ensures { λ r. ⌜ r ≡ refusal-number self ⌝ }
+    {
+        match self {
+            Refusal::RowTooShort(_) => 1,
+            Refusal::TooManyAttributes => 2,
+        }
+    }
+
+    // The place that is told with it.
+    pub fn place(self) -> u64
+        ensures { λ r. ⌜ r ≡ refusal-place self ⌝ }
+    {
+        match self {
+            Refusal::RowTooShort(length) => length as u64,
+            Refusal::TooManyAttributes => 0,
+        }
+    }
+}
+
+#[derive(Clone, Copy)]
+pub enum Reply {
+    // Have all objects with the premise also the conclusion?
+    Question(Implication),
+    // Nothing is left to ask.
+    Finished,
+    Refused(Refusal),
+}
+
+// A reply as a line of text.
+pub impl fmt::Display for Reply as ReplyDisplay {
+    ghost shown = { λ r. Some (reply-text r) };
+
+    fn fmt<W: fmt::Write>(&self, f: &mut fmt::Formatter<W>) -> fmt::Result {
+        match self {
+            Reply::Question(asked) => {
+                let premise = asked.premise;
+                let conclusion = asked.conclusion;
+                write!(f, "all with {premise} have {conclusion}?")
+            }
+            Reply::Finished => write!(f, "finished"),
+            Reply::Refused(refusal) => {
+                let number = refusal.number();
+                let place = refusal.place();
+                write!(f, "refused {number} at {place}")
+            }
+        }
+    }
+}
