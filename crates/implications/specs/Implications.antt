@@ -5,7 +5,7 @@ use mathlib.Core.List.{List, [], _∷_}
 use Prim.Native.Nat.{ℕ, _≤_}
 use lib.ListN.{length}
 use Rattle.std.specs.shelf.Lists.{All}
-use Rattle.attributes.specs.Sets.{Set}
+use Rattle.attributes.specs.Sets.{Set, subset}
 use Rattle.contexts.specs.Contexts.{Context, Of-width, Implication, respects, holds}
 
 -- both sides say of n attributes whether they are in
@@ -21,6 +21,13 @@ respects-all s (i ∷ is) = respects s i && respects-all s is
 unfoldable pub all-hold : Context → List Implication → Bool
 all-hold t [] = true
 all-hold t (i ∷ is) = holds t i && all-hold t is
+
+-- r is the closure of s under the list: of the sets of n attributes that contain s and respect the list, the least
+pub record Closure (n : ℕ) (is : List Implication) (s r : Set) : Type 0 where
+  pub width : length r ≡ n
+  pub contains : subset s r ≡ true
+  pub respected : respects-all r is ≡ true
+  pub least : (t : Set) → length t ≡ n → subset s t ≡ true → respects-all t is ≡ true → subset r t ≡ true
 
 -- an implication follows from a list if it holds in every context of n attributes in which the whole list holds
 abbrev pub Follows : ℕ → List Implication → Implication → Type 0
