@@ -2,11 +2,15 @@
 ghost use mathlib.Core.Path.{_≡_};
 ghost use mathlib.Core.Bool.{true, cond};
 ghost use mathlib.Core.List.{[], _++_};
+ghost use Prim.Native.Nat.{ℕ, _^_, _≤_, _<_};
 ghost use lib.Chars.{codes};
+ghost use lib.ListN.{set};
+ghost use Rattle.std.specs.Options.{Cases};
 ghost use Rattle.std.specs.Written.{Prints, decimal};
 ghost use Rattle.std.specs.declared.option.Option.the-variants.{Some};
 ghost use Rattle.attributes.specs.Numbers.{number-of, set-in};
-ghost use Rattle.attributes.specs.Sets.{everything};
+ghost use Rattle.attributes.specs.Lectic.{precedes};
+ghost use Rattle.attributes.specs.Sets.{everything, has, join, meet, missing, subset};
 ghost use Rattle.attributes.specs.Text.{listed, written};
 use crate::count::AttributeCount;
 use std::fmt;
@@ -32,6 +36,104 @@ impl AttributeSet {
         AttributeSet {
             bits: (1u16 << n.get()) - 1,
         }
+    }
+
+    // The set of n attributes that a number of a row stands for; None if it has an attribute that is not there.
+    pub fn from_number(n: AttributeCount, number: u64) -> Option<AttributeSet>
+        ensures { λ r. ⌜ Cases r (2 ^ n .value ≤ number) (λ s. (s .bits ≡ number) × (number < 2 ^ n .value)) ⌝ }
+    {
+        if number >= 1u64 << n.get() {
+            return None;
+        }
+        Some(AttributeSet {
+            bits: number as u16,
+        })
+    }
+
+    // What a number of a row says of the lowest n attributes.
+    pub fn lowest(n: AttributeCount, number: u64) -> AttributeSet
+        ensures value { λ r. ⌜ set-in (n .value) (r .bits) ≡ set-in (n .value) number ⌝ }
+        ensures bound { λ r. ⌜ r .bits < 2 ^ n .value ⌝ }
+    {
+        AttributeSet {
+            bits: (number & ((1u64 << n.get()) - 1)) as u16,
+        }
+    }
+
+    // Those of the set's attributes that are among the first n.
+    pub fn within(self, n: AttributeCount) -> AttributeSet
+        ensures value { λ r. ⌜ set-in (n .value) (r .bits) ≡ set-in (n .value) (self .bits) ⌝ }
+        ensures bound { λ r. ⌜ r .bits < 2 ^ n .value ⌝ }
+    {
+        AttributeSet::lowest(n, self.number())
+    }
+
+    // The number that stands for the set in a row.
+    pub fn number(self) -> u64
+        ensures { λ r. ⌜ r ≡ self .bits ⌝ }
+    {
+        u64::from(self.bits)
+    }
+
+    pub fn is_subset_of(self, other: AttributeSet) -> bool
+        ensures { λ r. ⌜ ((n : ℕ) → self .bits < 2 ^ n → r ≡ subset (set-in n (self .bits)) (set-in n (other .bits))) ⌝ }
+    {
+        self.bits & other.bits == self.bits
+    }
+
+    // The attributes that both sets have.
+    pub fn meet(self, other: AttributeSet) -> AttributeSet
+        ensures value { λ r. ⌜ ((n : ℕ) → set-in n (r .bits) ≡ meet (set-in n (self .bits)) (set-in n (other .bits))) ⌝ }
+        ensures bound { λ r. ⌜ ((n : ℕ) → self .bits < 2 ^ n → r .bits < 2 ^ n) ⌝ }
+    {
+        AttributeSet {
+            bits: self.bits & other.bits,
+        }
+    }
+
+    // The attributes that one of the sets has.
+    pub fn join(self, other: AttributeSet) -> AttributeSet
+        ensures value { λ r. ⌜ ((n : ℕ) → set-in n (r .bits) ≡ join (set-in n (self .bits)) (set-in n (other .bits))) ⌝ }
+        ensures bound { λ r. ⌜ ((n : ℕ) → self .bits < 2 ^ n → other .bits < 2 ^ n → r .bits < 2 ^ n) ⌝ }
+    {
+        AttributeSet {
+            bits: self.bits | other.bits,
+        }
+    }
+
+    // The set with one attribute more; an attribute above 15 is not there to be added.
+    pub fn with(self, attribute: u8) -> AttributeSet
+        ensures value { λ r. ⌜ ((n : ℕ) → n ≤ 16 → set-in n (r .bits) ≡ set (set-in n (self .bits)) attribute true) ⌝ }
+        ensures bound { λ r. ⌜ ((n : ℕ) → self .bits < 2 ^ n → attribute < n → r .bits < 2 ^ n) ⌝ }
+    {
+        if attribute > 15 {
+            return self;
+        }
+        AttributeSet {
+            bits: self.bits | 1u16 << attribute,
+        }
+    }
+
+    // Whether an attribute is in the set.
+    pub fn contains(self, attribute: u8) -> bool
+        ensures { λ r. ⌜ ((n : ℕ) → self .bits < 2 ^ n → r ≡ has (set-in n (self .bits)) attribute) ⌝ }
+    {
+        attribute < 16 && self.bits >> attribute & 1 == 1
+    }
+
+    // Whether the set comes before another in lectic order: the other has the lowest attribute in which they differ.
+    pub fn precedes(self, other: AttributeSet) -> bool
+        ensures { λ r. ⌜ ((n : ℕ) → self .bits < 2 ^ n → other .bits < 2 ^ n → r ≡ precedes (set-in n (self .bits)) (set-in n (other .bits))) ⌝ }
+    {
+        other.contains((self.bits ^ other.bits).trailing_zeros() as u8)
+    }
+
+    // How many of n attributes are not in the set.
+    pub fn missing(self, n: AttributeCount) -> u32
+        ensures { λ r. ⌜ r ≡ missing (set-in (n .value) (self .bits)) ⌝ }
+    {
+        let there = self.bits & AttributeSet::everything(n).bits;
+        u32::from(n.get()) - there.count_ones()
     }
 }
 
