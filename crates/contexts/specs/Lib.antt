@@ -1,1 +1,3 @@
 pub mod Contexts
+pub mod Places
+pub mod Values

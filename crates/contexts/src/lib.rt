@@ -1,27 +1,56 @@
-// Objects by their attributes, and implications tested on them.
-ghost use Rattle.std.specs.declared.option.Option.the-variants.{Some};
-ghost use lib.Chars.{codes};
-ghost use mathlib.Core.List.{_++_};
+// Objects by their attributes, in a lent row of numbers: what they have in common, and implications tested on them.
+ghost use mathlib.Core.Path.{_≡_};
+ghost use mathlib.Core.Bool.{true};
+ghost use Prim.Native.Nat.{_^_, _<_};
+ghost use Rattle.std.specs.Options.{Cases};
 ghost use Rattle.attributes.specs.Numbers.{set-in};
-ghost use Rattle.attributes.specs.Text.{written};
+ghost use Rattle.contexts.specs.Contexts.{common, holds};
+ghost use Rattle.contexts.specs.Places.{First-breaking};
+ghost use Rattle.contexts.specs.Values.{implication-at, objects-in};
+use attributes::AttributeCount;
 use attributes::AttributeSet;
-use attributes::AttributeSetDisplay;
-use std::fmt;
 
-// What has all attributes of the premise has all attributes of the conclusion.
-#[derive(Clone, Copy)]
-pub struct Implication {
-    pub premise: AttributeSet,
-    pub conclusion: AttributeSet,
+mod implication;
+
+pub use implication::Implication;
+pub use implication::ImplicationDisplay;
+
+// The attributes that all objects with the attributes of s have in common; all n if there is no such object.
+pub fn common(n: AttributeCount, objects: &[u64], s: AttributeSet) -> AttributeSet
+    ensures value { λ r. ⌜ set-in (n .value) (r .bits) ≡ common (n .value) (objects-in (n .value) (now (objects .entry))) (set-in (n .value) (s .bits)) ⌝ }
+    ensures bound { λ r. ⌜ r .bits < 2 ^ n .value ⌝ }
+{
+    let asked = s.within(n);
+    let mut shared = AttributeSet::everything(n);
+    for number in objects {
+        let object = AttributeSet::lowest(n, *number);
+        if asked.is_subset_of(object) {
+            shared = shared.meet(object);
+        }
+    }
+    shared
 }
 
-// The premise, a colon and the conclusion.
-pub impl fmt::Display for Implication as ImplicationDisplay {
-    ghost shown = { λ i. Some (written (set-in 16 (i .premise .bits)) ++ (codes ": " ++ written (set-in 16 (i .conclusion .bits)))) };
-
-    fn fmt<W: fmt::Write>(&self, f: &mut fmt::Formatter<W>) -> fmt::Result {
-        let premise = self.premise;
-        let conclusion = self.conclusion;
-        write!(f, "{premise}: {conclusion}")
+// The place of the first object that breaks an implication.
+pub fn first_counterexample(
+    n: AttributeCount,
+    objects: &[u64],
+    implication: Implication,
+) -> Option<usize>
+    ensures { λ r. ⌜ Cases r (holds (objects-in (n .value) (now (objects .entry))) (implication-at (n .value) implication) ≡ true) (First-breaking (objects-in (n .value) (now (objects .entry))) (implication-at (n .value) implication)) ⌝ }
+{
+    let tested = implication.within(n);
+    for (place, number) in objects.iter().enumerate() {
+        if !tested.is_respected_by(AttributeSet::lowest(n, *number)) {
+            return Some(place);
+        }
     }
+    None
+}
+
+// Whether all objects respect an implication.
+pub fn holds(n: AttributeCount, objects: &[u64], implication: Implication) -> bool
+    ensures { λ r. ⌜ r ≡ holds (objects-in (n .value) (now (objects .entry))) (implication-at (n .value) implication) ⌝ }
+{
+    first_counterexample(n, objects, implication).is_none()
 }
