@@ -1,6 +1,6 @@
 // Sets of attributes as bit masks, and how many attributes there are.
 ghost use Prim.Native.Nat.{ℕ};
-ghost use Rattle.attributes.specs.Laws.{Lectic-agrees};
+ghost use Rattle.attributes.specs.Laws.{Lectic-agrees, Order-laws};
 
 mod count;
 mod set;
@@ -12,6 +12,13 @@ pub use set::AttributeSetDisplay;
 // The lectic test on two sets and the enumeration of all sets agree.
 pub fn lectic_agrees() -> u8
     ensures { λ _. ⌜ ((n : ℕ) → Lectic-agrees n) ⌝ }
+{
+    0
+}
+
+// The lectic test is a strict total order on the sets of n attributes, and a proper subset precedes.
+pub fn order_laws() -> u8
+    ensures { λ _. ⌜ ((n : ℕ) → Order-laws n) ⌝ }
 {
     0
 }
