@@ -31,9 +31,9 @@ common-inside-all : (n : ℕ) (t : Context) (s : Set) → All (λ (o : Set). sub
 unfolding common
 common-inside-all n [] s = tt
 common-inside-all n (o ∷ os) s = (
-    λ h. rw h (meet-left o (common n os s)),
-    all-weaker (λ (p : Set). subset s p ≡ true → subset (common n os s) p ≡ true) (λ (p : Set). subset s p ≡ true → subset (common n (o ∷ os) s) p ≡ true)
-    (λ p f h. subset-trans (common n (o ∷ os) s) (common n os s) p (common-less n o os s) (f h)) os (common-inside-all n os s),
+  λ h. rw h (meet-left o (common n os s)),
+  all-weaker (λ (p : Set). subset s p ≡ true → subset (common n os s) p ≡ true) (λ (p : Set). subset s p ≡ true → subset (common n (o ∷ os) s) p ≡ true)
+      (λ p f h. subset-trans (common n (o ∷ os) s) (common n os s) p (common-less n o os s) (f h)) os (common-inside-all n os s),
 )
 
 common-greatest-all : (n : ℕ) (t : Context) (s r : Set) → length r ≡ n → All (λ (o : Set). subset s o ≡ true → subset r o ≡ true) t → subset r (common n t s) ≡ true
@@ -76,7 +76,8 @@ module _ (n : ℕ) (t : Context) (w : Of-width n t) where
 
 pub holds-by-common : (n : ℕ) (t : Context) → Holds-by-common n t
 holds-by-common n t i e =
-    same-from-decides (holds t i) (subset (i .conclusion) (common n t (i .premise)))
-    (λ h. common-greatest n t (i .premise) (i .conclusion) e (λ o m. respects-apply o i (holds-has t i h o m)),
-      λ h. has-holds t i (λ o m. respects-from o i (λ p. subset-trans (i .conclusion) (common n t (i .premise)) o h (common-inside n t (i .premise) o m p))))
+    same-from-decides (holds t i) (subset (i .conclusion) (common n t (i .premise))) (
+      λ h. common-greatest n t (i .premise) (i .conclusion) e (λ o m. respects-apply o i (holds-has t i h o m)),
+      λ h. has-holds t i (λ o m. respects-from o i (λ p. subset-trans (i .conclusion) (common n t (i .premise)) o h (common-inside n t (i .premise) o m p))),
+    )
     (λ h. h, λ h. h)
