@@ -1,16 +1,16 @@
 -- The attributes that objects have in common. Assumes nothing.
-use mathlib.Core.Path.{_≡_, refl, sym, ap, _∙_}
-use mathlib.Core.Bool.{Bool, true, false, cond}
-use mathlib.Core.List.{List, [], _∷_}
+use mathlib.Core.Path.{_≡_, sym, _∙_}
+use mathlib.Core.Bool.{true}
+use mathlib.Core.List.{[], _∷_}
 use Prim.Native.Nat.{ℕ}
 use lib.ListN.{length}
 use Rattle.std.specs.shelf.Lists.{All, Has}
 use Rattle.std.proofs.shelf.Elements.{all-has, all-weaker}
 use Rattle.std.proofs.shelf.Tests.{cond-both}
 use Rattle.std.proofs.shelf.Ways.{same-from-decides}
-use Rattle.attributes.specs.Sets.{Set, subset, meet, everything}
+use Rattle.attributes.specs.Sets.{Set, subset, meet}
 use Rattle.attributes.proofs.Sets.{subset-refl, subset-trans, subset-antisym, meet-left, meet-right, meet-greatest, length-meet, length-everything, inside-everything}
-use Rattle.contexts.specs.Contexts.{Context, Of-width, Implication, common, respects, holds}
+use Rattle.contexts.specs.Contexts.{Context, Of-width, common, holds}
 use Rattle.contexts.specs.Laws.{Common-laws, Holds-by-common}
 use Rattle.contexts.proofs.Holds.{respects-apply, respects-from, all-from-has, holds-has, has-holds}
 

@@ -1,6 +1,6 @@
 -- Sets and contexts that respect lists of implications, and what follows from a list. Assumes nothing.
 use mathlib.Core.Path.{_≡_, refl, sym, _∙_}
-use mathlib.Core.Bool.{Bool, true, false, _&&_}
+use mathlib.Core.Bool.{true}
 use mathlib.Core.List.{List, [], _∷_}
 use Prim.Native.Nat.{ℕ}
 use native.Mathlib.Omega.{arith}
@@ -8,13 +8,12 @@ use lib.ListN.{length}
 use Rattle.std.specs.Orderings.{Decides}
 use Rattle.std.specs.shelf.Lists.{All, Has}
 use Rattle.std.proofs.shelf.Elements.{all-has}
-use Rattle.std.proofs.shelf.Tests.{and-from, and-parts}
 use Rattle.std.proofs.shelf.Ways.{decides-by-and}
-use Rattle.attributes.specs.Sets.{Set, subset, meet}
+use Rattle.attributes.specs.Sets.{Set, meet}
 use Rattle.attributes.proofs.Sets.{subset-trans, subset-antisym, meet-left, meet-right, meet-greatest}
-use Rattle.contexts.specs.Contexts.{Context, Of-width, Implication, respects, holds}
+use Rattle.contexts.specs.Contexts.{Context, Implication, respects, holds}
 use Rattle.contexts.proofs.Holds.{respects-apply, respects-from, all-from-has, holds-has, has-holds}
-use Rattle.implications.specs.Implications.{respects-all, all-hold, Closure, Follows}
+use Rattle.implications.specs.Implications.{respects-all, all-hold, Closure}
 use Rattle.implications.specs.Laws.{One-set-decides, Follows-by-closure, One-closure, Meet-respects}
 
 -- a set respects a list exactly if it respects each member
