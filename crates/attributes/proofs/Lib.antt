@@ -1,3 +1,4 @@
-mod Lectic
+pub mod Lectic
 pub mod Numbers
+pub mod Sets
 mod Text

@@ -1,17 +1,11 @@
 // Sets of attributes as bit masks, and how many attributes there are.
-ghost use Prim.Native.Nat.{ℕ};
-ghost use Rattle.attributes.specs.Laws.{Lectic-agrees};
 
 mod count;
+mod laws;
 mod set;
 
 pub use count::AttributeCount;
+pub use laws::lectic_agrees;
+pub use laws::order_laws;
 pub use set::AttributeSet;
 pub use set::AttributeSetDisplay;
-
-// The lectic test on two sets and the enumeration of all sets agree.
-pub fn lectic_agrees() -> u8
-    ensures { λ _. ⌜ ((n : ℕ) → Lectic-agrees n) ⌝ }
-{
-    0
-}

@@ -1,3 +1,4 @@
 pub mod Contexts
+pub mod Laws
 pub mod Places
 pub mod Values

@@ -11,9 +11,12 @@ use attributes::AttributeCount;
 use attributes::AttributeSet;
 
 mod implication;
+mod laws;
 
 pub use implication::Implication;
 pub use implication::ImplicationDisplay;
+pub use laws::common_laws;
+pub use laws::holds_by_common;
 
 // The attributes that all objects with the attributes of s have in common; all n if there is no such object.
 pub fn common(n: AttributeCount, objects: &[u64], s: AttributeSet) -> AttributeSet

@@ -1,0 +1,5 @@
+use Rattle.contexts.proofs.Common.{common-laws}
+use Rattle.contexts.proofs.laws.common_laws.Needs as need
+
+pub returns : need.returns
+returns c = common-laws

@@ -1,0 +1,5 @@
+use Rattle.contexts.proofs.Common.{holds-by-common}
+use Rattle.contexts.proofs.laws.holds_by_common.Needs as need
+
+pub returns : need.returns
+returns c = holds-by-common
