@@ -17,6 +17,7 @@ use Rattle.std.proofs.shelf.Ways.{tells}
 use Rattle.attributes.specs.Lectic.{precedes}
 use Rattle.attributes.specs.Sets.{Set, everything, has, meet, missing, join, subset}
 use Rattle.attributes.specs.Numbers.{set-in, number-of}
+use Rattle.attributes.proofs.Sets.{length-everything}
 
 number-cons : (b : Bool) (s : Set) → number-of (b ∷ s) ≡ cond b 1 0 + 2 * number-of s
 unfolding number-of
@@ -200,3 +201,6 @@ pub everything-mask : (m n : ℕ) → bitAnd m (number-of (everything n)) ≡ m 
 everything-mask m n =
     let ones-below : number-of (everything n) ≡ 2 ^ n - 1 = omega (arith, number-of-everything n) in
     ap (bitAnd m) ones-below ∙ and-mask m n
+
+pub set-in-everything : (n : ℕ) → set-in n (number-of (everything n)) ≡ everything n
+set-in-everything n = ap (λ (k : ℕ). set-in k (number-of (everything n))) (sym (length-everything n)) ∙ set-in-number-of (everything n)

@@ -1,2 +1,3 @@
-pub mod Holds
-pub mod Common
+pub mod Holding
+pub mod CommonAttributes
+mod Walks

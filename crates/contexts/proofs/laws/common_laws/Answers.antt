@@ -1,4 +1,4 @@
-use Rattle.contexts.proofs.Common.{common-laws}
+use Rattle.contexts.proofs.CommonAttributes.{common-laws}
 use Rattle.contexts.proofs.laws.common_laws.Needs as need
 
 pub returns : need.returns

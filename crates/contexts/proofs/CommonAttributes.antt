@@ -12,7 +12,7 @@ use Rattle.attributes.specs.Sets.{Set, subset, meet}
 use Rattle.attributes.proofs.Sets.{subset-refl, subset-trans, subset-antisym, meet-left, meet-right, meet-greatest, length-meet, length-everything, inside-everything}
 use Rattle.contexts.specs.Contexts.{Context, Of-width, common, holds}
 use Rattle.contexts.specs.Laws.{Common-laws, Holds-by-common}
-use Rattle.contexts.proofs.Holds.{respects-apply, respects-from, all-from-has, holds-has, has-holds}
+use Rattle.contexts.proofs.Holding.{respects-apply, respects-from, all-from-has, holds-has, has-holds}
 
 pub length-common : (n : ℕ) (t : Context) (s : Set) → Of-width n t → length (common n t s) ≡ n
 unfolding common
