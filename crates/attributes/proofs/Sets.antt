@@ -3,12 +3,12 @@ use mathlib.Core.Path.{_≡_, refl, sym, ap, _∙_}
 use mathlib.Core.Bool.{Bool, true, false, _&&_, _||_}
 use mathlib.Core.List.{[], _∷_}
 use mathlib.Core.Logic.{inl, inr}
-use Prim.Native.Nat.{ℕ, zero, suc}
+use Prim.Native.Nat.{ℕ, zero, suc, _≤_, _<_}
 use native.Mathlib.Omega.{arith}
 use lib.ListN.{length}
 use Rattle.std.proofs.shelf.Lists.{ext-getD}
-use Rattle.std.proofs.shelf.Tests.{and-parts, and-from, and-right, or-cases, or-left, or-right}
-use Rattle.attributes.specs.Sets.{Set, subset, meet, join, has, everything}
+use Rattle.std.proofs.shelf.Tests.{true≢false, and-parts, and-from, and-right, or-cases, or-left, or-right}
+use Rattle.attributes.specs.Sets.{Set, subset, meet, join, has, missing, everything}
 
 -- a subset has no attribute that the set lacks
 pub subset-has : (s t : Set) → subset s t ≡ true → (c : ℕ) → has s c ≡ true → has t c ≡ true
@@ -112,3 +112,24 @@ inside-everything n [] e = refl
 inside-everything zero (x ∷ s) e = absurd (omega arith)
 inside-everything (suc n) (true ∷ s) e = inside-everything n s (omega arith)
 inside-everything (suc n) (false ∷ s) e = inside-everything n s (omega arith)
+
+-- a set lacks no more than its subsets do, and less unless it is the same
+missing-le : (s t : Set) → length s ≡ length t → subset s t ≡ true → missing t ≤ missing s
+unfolding subset missing
+missing-le [] [] e h = omega arith
+missing-le [] (y ∷ t) e h = absurd (omega arith)
+missing-le (x ∷ s) [] e h = absurd (omega arith)
+missing-le (true ∷ s) (true ∷ t) e h = missing-le s t (omega arith) h
+missing-le (true ∷ s) (false ∷ t) e h = absurd (true≢false (sym h))
+missing-le (false ∷ s) (true ∷ t) e h = omega (arith, missing-le s t (omega arith) h)
+missing-le (false ∷ s) (false ∷ t) e h = omega (arith, missing-le s t (omega arith) h)
+
+pub missing-less : (s t : Set) → length s ≡ length t → subset s t ≡ true → (s ≡ t → ⊥) → missing t < missing s
+unfolding subset missing
+missing-less [] [] e h other = absurd (other refl)
+missing-less [] (y ∷ t) e h other = absurd (omega arith)
+missing-less (x ∷ s) [] e h other = absurd (omega arith)
+missing-less (true ∷ s) (true ∷ t) e h other = missing-less s t (omega arith) h (λ p. other (ap (λ (r : Set). true ∷ r) p))
+missing-less (true ∷ s) (false ∷ t) e h other = absurd (true≢false (sym h))
+missing-less (false ∷ s) (true ∷ t) e h other = omega (arith, missing-le s t (omega arith) h)
+missing-less (false ∷ s) (false ∷ t) e h other = omega (arith, missing-less s t (omega arith) h (λ p. other (ap (λ (r : Set). false ∷ r) p)))

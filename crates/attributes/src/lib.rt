@@ -9,3 +9,4 @@ pub use laws::lectic_agrees;
 pub use laws::order_laws;
 pub use set::AttributeSet;
 pub use set::AttributeSetDisplay;
+pub use set::AttributeSetPartialEq;

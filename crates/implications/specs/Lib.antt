@@ -1,2 +1,4 @@
 pub mod Implications
 pub mod Laws
+pub mod Places
+pub mod Values
