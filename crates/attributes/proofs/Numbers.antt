@@ -58,11 +58,11 @@ number-of-below (false ∷ s) = omega (arith, number-of-below s, pow-suc 2 (leng
 pub set-in-number-of : (s : Set) → set-in (length s) (number-of s) ≡ s
 unfolding set-in number-of
 set-in-number-of [] = refl
-set-in-number-of (true ∷ s) = 
+set-in-number-of (true ∷ s) =
     let odd : (1 + 2 * number-of s) % 2 ≡ 1 = omega arith in
     let half : (1 + 2 * number-of s) / 2 ≡ number-of s = omega arith in
     λ j. eq-eqb ((1 + 2 * number-of s) % 2) 1 odd j ∷ (ap (set-in (length s)) half ∙ set-in-number-of s) j
-set-in-number-of (false ∷ s) = 
+set-in-number-of (false ∷ s) =
     let even : (2 * number-of s) % 2 ≡ 1 → ⊥ = λ e. omega arith in
     let half : (2 * number-of s) / 2 ≡ number-of s = omega arith in
     λ j. ne-eqb ((2 * number-of s) % 2) 1 even j ∷ (ap (set-in (length s)) half ∙ set-in-number-of s) j
@@ -179,7 +179,7 @@ precedes-bits (suc k) (suc n) a b p q =
     let half : bitXor a b / 2 ≡ bitXor (a / 2) (b / 2) = omega (arith, xor-step a b) in
     ap₂ (λ (d t : ℕ). has (set-in (suc n) b) (under d t)) low (ap (trailingZeros k) half)
     ∙ order-step (a % 2) (b % 2) (trailingZeros k (bitXor (a / 2) (b / 2))) (set-in n (a / 2)) (set-in n (b / 2)) (omega arith) (omega arith)
-        (precedes-bits k n (a / 2) (b / 2) (omega (arith, pow-suc 2 k)) (omega (arith, pow-suc 2 k)))
+    (precedes-bits k n (a / 2) (b / 2) (omega (arith, pow-suc 2 k)) (omega (arith, pow-suc 2 k)))
 
 missing-cons : (b : Bool) (s : Set) (k : ℕ) → k + missing (b ∷ s) ≡ k + (1 - cond b 1 0) + missing s
 unfolding missing
@@ -189,7 +189,7 @@ missing-cons false s k = omega arith
 pub missing-bits : (n m : ℕ) → m < 2 ^ n → ones m + missing (set-in n m) ≡ n
 unfolding set-in missing
 missing-bits zero m h = omega (arith, ones-le 0 m h)
-missing-bits (suc n) m h = 
+missing-bits (suc n) m h =
     missing-cons (eqb (m % 2) 1) (set-in n (m / 2)) (ones m)
     ∙ omega (arith, ones-step m, low-bit m, missing-bits n (m / 2) (omega (arith, pow-suc 2 n)))
 

@@ -60,12 +60,12 @@ module _ (n : ℕ) (is : List Implication) (s : Set) where
         record {
           contains = subset-trans s g g′ (before .contains) larger;
           inside = λ t e p r.
-            let q : subset g t ≡ true = before .inside t e p r in
-            let there : Has is i = rw is-there (has-getD is k no-implication at) in
-            join-least g (i .conclusion) same t q (respects-apply t i (respects-has t is r i there) (subset-trans (i .premise) g t h q));
+              let q : subset g t ≡ true = before .inside t e p r in
+              let there : Has is i = rw is-there (has-getD is k no-implication at) in
+              join-least g (i .conclusion) same t q (respects-apply t i (respects-has t is r i there) (subset-trans (i .premise) g t h q));
           applied = below-more _ k
-            (λ j less p. subset-trans (getD is j no-implication .conclusion) g g′ (before .applied j less p) larger)
-            (λ p. rw (← is-there) (join-right g (i .conclusion) same));
+              (λ j less p. subset-trans (getD is j no-implication .conclusion) g g′ (before .applied j less p) larger)
+              (λ p. rw (← is-there) (join-right g (i .conclusion) same));
         }
 
     pub passing-passed : subset (i .premise) g ≡ false → Passing n is s g (k + 1)
@@ -74,7 +74,7 @@ module _ (n : ℕ) (is : List Implication) (s : Set) where
           contains = before .contains;
           inside = before .inside;
           applied = below-more _ k (before .applied)
-            (λ p. absurd (both-ways (subset (i .premise) g) h (subset-trans (i .premise) s g (rw is-there p) (before .contains))));
+              (λ p. absurd (both-ways (subset (i .premise) g) h (subset-trans (i .premise) s g (rw is-there p) (before .contains))));
         }
 
   pub passing-all : (g : Set) (k : ℕ) → length is ≤ k → Passing n is s g k → Passed n is s g
@@ -83,8 +83,8 @@ module _ (n : ℕ) (is : List Implication) (s : Set) where
         contains = p .contains;
         inside = p .inside;
         applied = λ i m q.
-          let at : getD is (m .0) no-implication ≡ i = m .2 no-implication in
-          rw (← at) (p .applied (m .0) (omega (arith, m .1)) (rw at q));
+            let at : getD is (m .0) no-implication ≡ i = m .2 no-implication in
+            rw (← at) (p .applied (m .0) (omega (arith, m .1)) (rw at q));
       }
 
   -- a pass that adds nothing shows that all are respected

@@ -22,14 +22,14 @@ returns-then-not-is-respected-by c =
     let k : ℕ = c .loop-place .place in
     let at : k < length row = omega arith in
     let first : First-breaking t tested k =
-      record {
-        inside = omega (arith, length-map row (set-in n));
-        breaks =
+    record {
+      inside = omega (arith, length-map row (set-in n));
+      breaks =
           rw (← c .if-not-is-respected-by .taken)
-            (test-at n row k (c .lowest .result .bits) tested (c .is-respected-by .result) at (c .lowest .ensures .value)
-              (c .is-respected-by .ensures n (c .within-tested .ensures .premise) (c .within-tested .ensures .conclusion)));
-        before = c .loop-place .inv;
-      }
+          (test-at n row k (c .lowest .result .bits) tested (c .is-respected-by .result) at (c .lowest .ensures .value)
+          (c .is-respected-by .ensures n (c .within-tested .ensures .premise) (c .within-tested .ensures .conclusion)));
+      before = c .loop-place .inv;
+    }
     in
     subst (λ (i : Implication). First-breaking t i k) (c .within-tested .ensures .value) first
 
@@ -41,9 +41,9 @@ loop-place-again c =
     let k : ℕ = c .loop-place .place in
     let at : k < length row = omega arith in
     below-more _ k (c .loop-place .inv)
-      (rw (← c .if-not-is-respected-by .left)
-        (test-at n row k (c .lowest .result .bits) tested (c .is-respected-by .result) at (c .lowest .ensures .value)
-          (c .is-respected-by .ensures n (c .within-tested .ensures .premise) (c .within-tested .ensures .conclusion))))
+    (rw (← c .if-not-is-respected-by .left)
+    (test-at n row k (c .lowest .result .bits) tested (c .is-respected-by .result) at (c .lowest .ensures .value)
+    (c .is-respected-by .ensures n (c .within-tested .ensures .premise) (c .within-tested .ensures .conclusion))))
 
 pub returns : need.returns
 returns c =
@@ -51,4 +51,4 @@ returns c =
     let row : List ℕ = c .args .objects .now in
     let t : Context = objects-in n row in
     subst (λ (i : Implication). holds t i ≡ true) (c .within-tested .ensures .value)
-      (holds-places t (implication-at n (c .within-tested .result)) (c .loop-place .place) (omega (arith, length-map row (set-in n))) (c .loop-place .inv))
+    (holds-places t (implication-at n (c .within-tested .result)) (c .loop-place .place) (omega (arith, length-map row (set-in n))) (c .loop-place .inv))

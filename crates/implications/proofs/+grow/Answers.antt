@@ -21,7 +21,7 @@ returns-then-eq t c =
     let s : Set = set-in n (c .args .s .bits) in
     record {
       value =
-        passed-same n is s (length-set-in n (c .args .s .bits))
+          passed-same n is s (length-set-in n (c .args .s .bits))
           (subst (λ (m : ℕ). Passed n is s (set-in n m)) (c .eq .ensures .0 (c .if-eq .taken)) (c .pass-grown .ensures .value));
       bound = c .pre;
     }
@@ -32,11 +32,11 @@ grow-requires t c κs =
     let s : Set = set-in n (c .args .s .bits) in
     let g : Set = set-in n (c .pass-grown .result .bits) in
     let other : s ≡ g → ⊥ =
-      λ e. both-ways (c .eq .result) (c .if-eq .left)
-        (c .eq .ensures .1 (sym (number-of-set-in n (c .pass-grown .result .bits) (c .pass-grown .ensures .bound)) ∙ ap number-of (sym e) ∙ number-of-set-in n (c .args .s .bits) (c .pre)))
+    λ e. both-ways (c .eq .result) (c .if-eq .left)
+    (c .eq .ensures .1 (sym (number-of-set-in n (c .pass-grown .result .bits) (c .pass-grown .ensures .bound)) ∙ ap number-of (sym e) ∙ number-of-set-in n (c .args .s .bits) (c .pre)))
     in
     let fewer : missing g < missing s =
-      missing-less s g (length-set-in n (c .args .s .bits) ∙ sym (length-set-in n (c .pass-grown .result .bits))) (c .pass-grown .ensures .value .contains) other
+    missing-less s g (length-set-in n (c .args .s .bits) ∙ sym (length-set-in n (c .pass-grown .result .bits))) (c .pass-grown .ensures .value .contains) other
     in
     (search needs, c .pass-grown .ensures .bound)
 
@@ -46,7 +46,7 @@ returns t c =
     let is : List Implication = implications-in n (c .args .implications .now) in
     record {
       value =
-        passed-more n is (set-in n (c .args .s .bits)) (set-in n (c .pass-grown .result .bits)) (set-in n (c .grow .result .bits))
+          passed-more n is (set-in n (c .args .s .bits)) (set-in n (c .pass-grown .result .bits)) (set-in n (c .grow .result .bits))
           (c .pass-grown .ensures .value) (c .grow .ensures .value);
       bound = c .grow .ensures .bound;
     }

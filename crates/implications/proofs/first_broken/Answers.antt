@@ -15,9 +15,9 @@ returns-then-not-is-respected-by c =
     record {
       inside = omega (arith, implications-length n (c .args .implications .now));
       breaks =
-        ap (respects (set-in n (c .args .s .bits))) (sym (c .implication-at .ensures .value))
-        ∙ sym (c .is-respected-by .ensures n (c .implication-at .ensures .premise) (c .implication-at .ensures .conclusion))
-        ∙ c .if-not-is-respected-by .taken;
+          ap (respects (set-in n (c .args .s .bits))) (sym (c .implication-at .ensures .value))
+          ∙ sym (c .is-respected-by .ensures n (c .implication-at .ensures .premise) (c .implication-at .ensures .conclusion))
+          ∙ c .if-not-is-respected-by .taken;
       before = c .loop-place .inv;
     }
 

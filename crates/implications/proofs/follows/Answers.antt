@@ -17,7 +17,7 @@ returns c =
     let i : Implication = implication-at n (c .args .implication) in
     let r : Set = set-in n (c .close-closure .result .bits) in
     let test : c .is-subset-of .result ≡ subset (i .conclusion) r =
-      c .is-subset-of .ensures n (c .within .ensures .bound) ∙ ap (λ (s : Set). subset s r) (c .within .ensures .value)
+    c .is-subset-of .ensures n (c .within .ensures .bound) ∙ ap (λ (s : Set). subset s r) (c .within .ensures .value)
     in
     let law = follows-by-closure n is i r (c .close-closure .ensures .value) in
     (λ h. law .follows (sym test ∙ h), λ f. test ∙ law .contains f)

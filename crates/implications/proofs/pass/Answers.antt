@@ -28,18 +28,18 @@ loop-place-again c =
     let at : k < length is = omega (arith, implications-length n (c .args .implications .now)) in
     let test = c .is-subset-of .ensures n (c .implication-at-implication .ensures .premise) in
     elim (c .if-is-subset-of .came) [
-      then-is-subset-of w ↦
-        rw (w .grown-is) (
-          w .join-grown .ensures .bound n (c .loop-place .inv .0) (c .implication-at-implication .ensures .conclusion),
-          rw (w .join-grown .ensures .value n)
-            (passing-taken n is s g k i at (c .implication-at-implication .ensures .value) (c .loop-place .inv .1)
-              (length-set-in n (c .loop-place .grown .bits) ∙ sym (length-set-in n (pair .conclusion .bits))) (sym test ∙ w .if-is-subset-of .taken)),
-        )
-    | else-is-subset-of w ↦
-        rw (w .grown-is) (
-          c .loop-place .inv .0,
-          passing-passed n is s g k i at (c .implication-at-implication .ensures .value) (c .loop-place .inv .1) (sym test ∙ w .if-is-subset-of .left),
-        )
+      | then-is-subset-of w ↦
+          rw (w .grown-is) (
+            w .join-grown .ensures .bound n (c .loop-place .inv .0) (c .implication-at-implication .ensures .conclusion),
+            rw (w .join-grown .ensures .value n)
+                (passing-taken n is s g k i at (c .implication-at-implication .ensures .value) (c .loop-place .inv .1)
+                (length-set-in n (c .loop-place .grown .bits) ∙ sym (length-set-in n (pair .conclusion .bits))) (sym test ∙ w .if-is-subset-of .taken)),
+          )
+      | else-is-subset-of w ↦
+          rw (w .grown-is) (
+            c .loop-place .inv .0,
+            passing-passed n is s g k i at (c .implication-at-implication .ensures .value) (c .loop-place .inv .1) (sym test ∙ w .if-is-subset-of .left),
+          )
     ]
 
 pub returns : need.returns

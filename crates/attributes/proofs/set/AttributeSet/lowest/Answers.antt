@@ -12,6 +12,6 @@ returns c =
     let m : ℕ = c .args .number in
     let n : ℕ = c .args .n .value in
     let masked : bitAnd m ((1 * 2 ^ c .get .result) % 2 ^ 64 - 1) ≡ m % 2 ^ n =
-      low-mask m (c .get .result) 64 (omega (arith, c .get .ensures .few)) ∙ ap (λ (k : ℕ). m % 2 ^ k) (c .get .ensures .value)
+    low-mask m (c .get .result) 64 (omega (arith, c .get .ensures .few)) ∙ ap (λ (k : ℕ). m % 2 ^ k) (c .get .ensures .value)
     in
     record { value = ap (set-in n) masked ∙ set-in-mod n m; bound = omega (arith, masked, mod-below m (2 ^ n) (pow-pos n)) }

@@ -20,4 +20,4 @@ pub returns-else-not-is-subset-of : need.returns-else-not-is-subset-of
 unfolding respects
 returns-else-not-is-subset-of c n p q =
     second-counts (c .is-subset-of .result) _ (c .is-subset-of-else-not-is-subset-of .result) _ (c .is-subset-of .ensures n p) (c .if-not-is-subset-of .left)
-      (c .is-subset-of-else-not-is-subset-of .ensures n q)
+    (c .is-subset-of-else-not-is-subset-of .ensures n q)
