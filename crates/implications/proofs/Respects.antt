@@ -10,9 +10,10 @@ use Rattle.std.specs.shelf.Lists.{All, Has}
 use Rattle.std.proofs.shelf.Elements.{all-has}
 use Rattle.std.proofs.shelf.Ways.{decides-by-and}
 use Rattle.attributes.specs.Sets.{Set, meet}
+use Rattle.attributes.proofs.Members.{all-from-has}
 use Rattle.attributes.proofs.Sets.{subset-trans, subset-antisym, meet-left, meet-right, meet-greatest}
 use Rattle.contexts.specs.Contexts.{Context, Implication, respects, holds}
-use Rattle.contexts.proofs.Holds.{respects-apply, respects-from, all-from-has, holds-has, has-holds}
+use Rattle.contexts.proofs.Holds.{respects-apply, respects-from, holds-has, has-holds}
 use Rattle.implications.specs.Implications.{respects-all, all-hold, Closure}
 use Rattle.implications.specs.Laws.{One-set-decides, Follows-by-closure, One-closure, Meet-respects}
 
