@@ -1,2 +1,4 @@
 mod Opening
+pub mod Pairs
+pub mod Question
 mod Worked

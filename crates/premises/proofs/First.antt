@@ -36,6 +36,9 @@ unfolding first sets set-in
 first-empty zero test e = ap (λ (b : Bool). cond b (Some []) None) e
 first-empty (suc n) test e = first-image test (λ (s : Set). false ∷ s) (sets n) (map (λ (s : Set). true ∷ s) (sets n)) (set-in n 0) (first-empty n (λ (s : Set). test (false ∷ s)) e)
 
+pub no-some : {A : Type 0} {x : A} → None ≡ Some x → ⊥
+no-some e = let z : _≡_ {A = ℕ} 0 1 = cc in omega arith
+
 -- the place at which a search finds a set: it passes, and none before it does
 record Found (test : Set → Bool) (ss : List Set) (s : Set) : Type 0 where
   place : ℕ
@@ -46,7 +49,7 @@ record Found (test : Set → Bool) (ss : List Set) (s : Set) : Type 0 where
 
 first-found : (test : Set → Bool) (ss : List Set) (s : Set) → first test ss ≡ Some s → Found test ss s
 unfolding first
-first-found test [] s e = absurd (let z : _≡_ {A = ℕ} 0 1 = cc in omega arith)
+first-found test [] s e = absurd (no-some e)
 first-found test (t ∷ ss) s e = go (test t) refl (first-found test ss s) e
   where
     go : (b : Bool) → test t ≡ b → (first test ss ≡ Some s → Found test ss s) → cond b (Some t) (first test ss) ≡ Some s → Found test (t ∷ ss) s
@@ -69,7 +72,7 @@ first-none test [] e = tt
 first-none test (t ∷ ss) e = go (test t) refl (first-none test ss) e
   where
     go : (b : Bool) → test t ≡ b → (first test ss ≡ None → All (λ (s : Set). test s ≡ false) ss) → cond b (Some t) (first test ss) ≡ None → All (λ (s : Set). test s ≡ false) (t ∷ ss)
-    go true h later found = absurd (let z : _≡_ {A = ℕ} 0 1 = cc in omega arith)
+    go true h later found = absurd (no-some (sym found))
     go false h later found = (h, later found)
 
 module _ (n : ℕ) (test : Set → Bool) where
