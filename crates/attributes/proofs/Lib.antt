@@ -1,4 +1,5 @@
 pub mod Lectic
+pub mod Members
 pub mod Numbers
 pub mod Sets
 mod Text

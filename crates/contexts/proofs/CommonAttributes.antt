@@ -9,10 +9,11 @@ use Rattle.std.proofs.shelf.Elements.{all-has, all-weaker}
 use Rattle.std.proofs.shelf.Tests.{cond-both}
 use Rattle.std.proofs.shelf.Ways.{same-from-decides}
 use Rattle.attributes.specs.Sets.{Set, subset, meet}
+use Rattle.attributes.proofs.Members.{all-from-has}
 use Rattle.attributes.proofs.Sets.{subset-refl, subset-trans, subset-antisym, meet-left, meet-right, meet-greatest, length-meet, length-everything, inside-everything}
 use Rattle.contexts.specs.Contexts.{Context, Of-width, common, holds}
 use Rattle.contexts.specs.Laws.{Common-laws, Holds-by-common}
-use Rattle.contexts.proofs.Holding.{respects-apply, respects-from, all-from-has, holds-has, has-holds}
+use Rattle.contexts.proofs.Holding.{respects-apply, respects-from, holds-has, has-holds}
 
 pub length-common : (n : ℕ) (t : Context) (s : Set) → Of-width n t → length (common n t s) ≡ n
 unfolding common

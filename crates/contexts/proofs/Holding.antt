@@ -1,12 +1,12 @@
 -- Sets that respect an implication, and contexts for which it holds. Assumes nothing.
 use mathlib.Core.Path.{_≡_, refl}
 use mathlib.Core.Bool.{Bool, true, false, _||_, not}
-use mathlib.Core.List.{List}
 use Rattle.std.specs.Orderings.{Decides}
 use Rattle.std.specs.shelf.Lists.{All, Has}
-use Rattle.std.proofs.shelf.Elements.{all-has, all-has-itself, all-weaker}
+use Rattle.std.proofs.shelf.Elements.{all-has}
 use Rattle.std.proofs.shelf.Ways.{decides-by-and}
 use Rattle.attributes.specs.Sets.{Set, subset}
+use Rattle.attributes.proofs.Members.{all-from-has}
 use Rattle.contexts.specs.Contexts.{Context, Implication, respects, holds}
 
 pub respects-apply : (s : Set) (i : Implication) → respects s i ≡ true → subset (i .premise) s ≡ true → subset (i .conclusion) s ≡ true
@@ -33,10 +33,6 @@ breaks s i = go (subset (i .premise) s) (subset (i .conclusion) s)
     go : (p c : Bool) → (not p || c) ≡ false → (p ≡ true) × (c ≡ false)
     go true c e = (refl, e)
     go false c e = (cc, cc)
-
--- what holds of each member holds of all
-pub all-from-has : {X : Type 0} (P : X → Type 0) (xs : List X) → ((x : X) → Has xs x → P x) → All P xs
-all-from-has P xs h = all-weaker (Has xs) P h xs (all-has-itself xs)
 
 -- an implication holds exactly if each object respects it
 holds-all : (t : Context) (i : Implication) → Decides (holds t i) (All (λ (o : Set). respects o i ≡ true) t)

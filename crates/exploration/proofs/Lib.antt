@@ -1,2 +1,5 @@
 mod Opening
+pub mod Pairs
+pub mod Question
+pub mod Run
 mod Worked

@@ -1,3 +1,4 @@
+pub mod Promise
 pub mod Dialogue
 pub mod Refusals
 pub mod Row

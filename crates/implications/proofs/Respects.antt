@@ -10,9 +10,10 @@ use Rattle.std.specs.shelf.Lists.{All, Has}
 use Rattle.std.proofs.shelf.Elements.{all-has}
 use Rattle.std.proofs.shelf.Ways.{decides-by-and}
 use Rattle.attributes.specs.Sets.{Set, meet}
+use Rattle.attributes.proofs.Members.{all-from-has}
 use Rattle.attributes.proofs.Sets.{subset-trans, subset-antisym, meet-left, meet-right, meet-greatest}
 use Rattle.contexts.specs.Contexts.{Context, Implication, respects, holds}
-use Rattle.contexts.proofs.Holding.{respects-apply, respects-from, all-from-has, holds-has, has-holds}
+use Rattle.contexts.proofs.Holding.{respects-apply, respects-from, holds-has, has-holds}
 use Rattle.implications.specs.Implications.{respects-all, all-hold, Closure}
 use Rattle.implications.specs.Laws.{One-set-decides, Follows-by-closure, One-closure, Meet-respects}
 
@@ -26,6 +27,9 @@ respects-has s is h i m = all-has (λ (i : Implication). respects s i ≡ true) 
 
 pub has-respects : (s : Set) (is : List Implication) → ((i : Implication) → Has is i → respects s i ≡ true) → respects-all s is ≡ true
 has-respects s is h = respects-each s is .1 (all-from-has (λ (i : Implication). respects s i ≡ true) is h)
+
+pub respects-fewer : (s : Set) (is more : List Implication) → ((i : Implication) → Has is i → Has more i) → respects-all s more ≡ true → respects-all s is ≡ true
+respects-fewer s is more add h = has-respects s is (λ i m. respects-has s more h i (add i m))
 
 -- a list holds for a context exactly if each member does
 hold-each : (t : Context) (is : List Implication) → Decides (all-hold t is) (All (λ (i : Implication). holds t i ≡ true) is)
