@@ -3,7 +3,7 @@ use mathlib.Core.Path.{_≡_, refl, sym, ap, ap₂, _∙_}
 use mathlib.Core.Bool.{Bool, true, false, cond, not, _&&_, _||_}
 use mathlib.Core.List.{[], _∷_}
 use mathlib.Core.Logic.{_⊎_, inl, inr}
-use Prim.Native.Nat.{ℕ, zero, suc, _+_, _-_, _*_, _/_, _%_, _^_, _<_, min, max}
+use Prim.Native.Nat.{ℕ, zero, suc, _+_, _-_, _*_, _/_, _%_, _^_, _≤_, _<_, min, max}
 use native.Mathlib.Nat.{pow-suc, zero-div, div-one, div-eq-of-lt}
 use native.Mathlib.Numerals.{add-one, one-add}
 use native.Mathlib.Omega.{arith}
@@ -204,3 +204,15 @@ everything-mask m n =
 
 pub set-in-everything : (n : ℕ) → set-in n (number-of (everything n)) ≡ everything n
 set-in-everything n = ap (λ (k : ℕ). set-in k (number-of (everything n))) (sym (length-everything n)) ∙ set-in-number-of (everything n)
+
+-- an attribute below both widths is in the set at one exactly if it is at the other
+has-digit : (n m c : ℕ) → c < n → has (set-in n m) c ≡ eqb (m / 2 ^ c % 2) 1
+unfolding set-in
+has-digit zero m c h = absurd (omega arith)
+has-digit (suc n) m zero h = ap (λ (x : ℕ). eqb (x % 2) 1) (sym (div-one m))
+has-digit (suc n) m (suc c) h =
+    let step : m / 2 ^ suc c ≡ m / 2 / 2 ^ c = ap (λ (k : ℕ). m / 2 ^ k) (sym (one-add c)) ∙ sym (shr-shr m 1 c) in
+    has-digit n (m / 2) c (omega arith) ∙ ap (λ (x : ℕ). eqb (x % 2) 1) (sym step)
+
+pub has-narrow : (i n m c : ℕ) → c < i → i ≤ n → has (set-in n m) c ≡ has (set-in i m) c
+has-narrow i n m c h l = has-digit n m c (omega arith) ∙ sym (has-digit i m c h)

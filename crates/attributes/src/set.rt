@@ -121,6 +121,19 @@ impl AttributeSet {
         attribute < 16 && self.bits >> attribute & 1 == 1
     }
 
+    // Those of the set's attributes that are below a given one.
+    pub fn below(self, attribute: u8) -> AttributeSet
+        ensures value { λ r. ⌜ set-in attribute (r .bits) ≡ set-in attribute (self .bits) ⌝ }
+        ensures bound { λ r. ⌜ r .bits < 2 ^ attribute ⌝ }
+    {
+        if attribute > 15 {
+            return self;
+        }
+        AttributeSet {
+            bits: self.bits & ((1u16 << attribute) - 1),
+        }
+    }
+
     // Whether the set comes before another in lectic order: the other has the lowest attribute in which they differ.
     pub fn precedes(self, other: AttributeSet) -> bool
         ensures { λ r. ⌜ ((n : ℕ) → self .bits < 2 ^ n → other .bits < 2 ^ n → r ≡ precedes (set-in n (self .bits)) (set-in n (other .bits))) ⌝ }

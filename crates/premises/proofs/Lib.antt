@@ -1,2 +1,4 @@
 pub mod First
 pub mod Open
+pub mod Closures
+mod Branching

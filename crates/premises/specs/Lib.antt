@@ -1,2 +1,4 @@
-pub mod Open
+pub mod Branches
+pub mod Forced
 pub mod Laws
+pub mod Open

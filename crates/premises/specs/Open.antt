@@ -5,7 +5,7 @@ use Prim.Native.Nat.{ℕ}
 use Rattle.std.specs.declared.option.Option.{Option}
 use Rattle.std.specs.declared.option.Option.the-variants.{Some, None}
 use Rattle.attributes.specs.Sets.{Set, subset}
-use Rattle.attributes.specs.Lectic.{sets}
+use Rattle.attributes.specs.Lectic.{precedes, sets}
 use Rattle.contexts.specs.Contexts.{Implication}
 use Rattle.implications.specs.Implications.{respects-all}
 
@@ -22,3 +22,7 @@ first test (s ∷ ss) = cond (test s) (Some s) (first test ss)
 -- the lectically first open set of n attributes
 unfoldable pub first-open : ℕ → (Set → Set) → List Implication → Option Set
 first-open n forced confirmed = first (is-open forced confirmed) (sets n)
+
+-- the lectically first open set of n attributes that does not precede a given one
+unfoldable pub first-open-from : ℕ → (Set → Set) → List Implication → Set → Option Set
+first-open-from n forced confirmed from = first (λ (s : Set). not (precedes s from) && is-open forced confirmed s) (sets n)

@@ -1,12 +1,12 @@
-// The first open set.
-ghost use mathlib.Core.Bool.{Bool};
-ghost use Prim.Native.Nat.{ℕ};
-ghost use Rattle.attributes.specs.Sets.{Set};
-ghost use Rattle.premises.specs.Laws.{First-laws};
+// The premise of the next question: the first open set, found without going through all sets.
 
-// A search through the enumeration of all sets finds the lectically first that passes the test.
-pub fn first_laws() -> u8
-    ensures { λ _. ⌜ ((n : ℕ) (test : Set → Bool) → First-laws n test) ⌝ }
-{
-    0
-}
+mod forces;
+mod laws;
+mod search;
+
+pub use forces::Examples;
+pub use forces::ExamplesForce;
+pub use forces::Forces;
+pub use forces::Implied;
+pub use forces::ImpliedForce;
+pub use laws::first_laws;
