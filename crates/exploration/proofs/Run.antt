@@ -51,12 +51,13 @@ module _ (n : ℕ) (u : Context) where
   independent is r q a l =
       let (more, add, b) = l in
       let after : respects (q .premise) r ≡ true = respects-has (q .premise) more (b .respected) r (add r (has-push is r)) in
-      let before : respects-all (q .premise) is ≡ true = respects-fewer (q .premise) is more (λ i m. add i (has-append-left is (r ∷ []) i m)) (b .respected) in
-      (after,
+      let before : respects-all (q .premise) is ≡ true = respects-fewer (q .premise) is more (λ i m. add i (has-append-left is (r ∷ []) i m)) (b .respected) in (
+        after,
         respects-from (r .premise) q (λ h. elim (subset-first (q .premise) (r .premise) (b .wide ∙ sym (a .wide)) h) [
           | inl e ↦ absurd (breaks-itself is r a (rw e at after))
           | inr p ↦ absurd (both-ways (subset (common n u (q .premise)) (q .premise)) (rw (b .concludes) at (b .opens)) (a .earlier (q .premise) (b .wide) p before))
-        ]))
+        ]),
+      )
 
   pub run-independent : (is rs : List Implication) → Run n u is rs → Pairwise Independent rs
   run-independent is [] run = tt
@@ -71,7 +72,7 @@ module _ (n : ℕ) (u : Context) where
       let later = run-later is rs run in
       at-most-sets n (λ (r : Implication). r .premise) rs (all-weaker (Later n u is) (λ (r : Implication). length (r .premise) ≡ n) (λ r l. l .2 .wide) rs later)
       (pairwise-weaker Independent (λ (r q : Implication). r .premise ≢ q .premise) (Later n u is)
-        (λ r q l _ both e. breaks-itself (l .0) r (l .2) (rw (sym e) at (both .0))) rs later (run-independent is rs run))
+      (λ r q l _ both e. breaks-itself (l .0) r (l .2) (rw (sym e) at (both .0))) rs later (run-independent is rs run))
 
   -- two runs that ask until nothing is left are one
   pub same-run : (is rs qs : List Implication) → Run n u is rs → Run n u is qs → Shut n (is ++ rs) u → Shut n (is ++ qs) u → rs ≡ qs
@@ -82,6 +83,6 @@ module _ (n : ℕ) (u : Context) where
       let same : r ≡ q = cc (asked n is u r (p .0), asked n is u q (m .0)) in
       let split : (qs : List Implication) → is ++ r ∷ qs ≡ (is ++ r ∷ []) ++ qs = λ qs. sym (append-assoc is (r ∷ []) qs) in
       let rest : rs ≡ qs =
-        same-run (is ++ r ∷ []) rs qs (p .1) (rw (sym same) at (m .1)) (subst (λ (l : List Implication). Shut n l u) (split rs) h)
-        (subst (λ (l : List Implication). Shut n l u) (ap (λ (i : Implication). is ++ i ∷ qs) (sym same) ∙ split qs) k) in
+      same-run (is ++ r ∷ []) rs qs (p .1) (rw (sym same) at (m .1)) (subst (λ (l : List Implication). Shut n l u) (split rs) h)
+      (subst (λ (l : List Implication). Shut n l u) (ap (λ (i : Implication). is ++ i ∷ qs) (sym same) ∙ split qs) k) in
       cc

@@ -54,18 +54,18 @@ agree-fewer i s t a c h = a c (omega arith)
 -- one attribute more
 grown : (s : Set) (i : ℕ) → subset s (set s i true) ≡ true
 grown s i = has-subset s (set s i true) (λ c h. elim (cases-eq c i) [
-    inl e ↦ elim (cases-lt i (length s)) [
-      inl l ↦ ap (has (set s i true)) e ∙ getD-set-same s i true false l
+  | inl e ↦ elim (cases-lt i (length s)) [
+    | inl l ↦ ap (has (set s i true)) e ∙ getD-set-same s i true false l
     | inr l ↦ ap (λ (t : Set). has t c) (set-past s i true l) ∙ h
-    ]
+  ]
   | inr e ↦ getD-set-other s i c true false e ∙ h
-  ])
+])
 
 grown-inside : (s : Set) (i : ℕ) (t : Set) → subset s t ≡ true → has t i ≡ true → subset (set s i true) t ≡ true
 grown-inside s i t h x = has-subset (set s i true) t (λ c p. elim (cases-eq c i) [
-    inl e ↦ ap (has t) e ∙ x
+  | inl e ↦ ap (has t) e ∙ x
   | inr e ↦ subset-has s t h c (sym (getD-set-other s i c true false e) ∙ p)
-  ])
+])
 
 -- at the last attribute the branch is the set itself
 module _ (n : ℕ) (s from : Set) (past : Bool) (wide : length s ≡ n) where
@@ -121,8 +121,8 @@ module _ (n i : ℕ) (s from : Set) (past beyond : Bool) (wide : length from ≡
   reaches : (t : Set) → length t ≡ n → Agree i s t → has t i ≡ true → (beyond ≡ false → precedes t from ≡ false) → past ≡ false → precedes t from ≡ false
   reaches t w a x later e =
       elim (cases-bool beyond) [
-        inl b ↦ not-after n i from t wide w (agree-trans i from s t (agree-sym i s from (even e)) a) (from-lacks b e) x
-      | inr b ↦ later b
+        | inl b ↦ not-after n i from t wide w (agree-trans i from s t (agree-sym i s from (even e)) a) (from-lacks b e) x
+        | inr b ↦ later b
       ]
 
   -- a set that has attribute i keeps it: the branch goes on
@@ -174,11 +174,11 @@ module _ (n i : ℕ) (s from : Set) (past beyond : Bool) (wide : length from ≡
           inside = out-back q (f .inside);
           passes = f .passes;
           before = λ t b p.
-            let at : has q i ≡ false = sym (f .inside .agrees i (omega arith)) ∙ is-out in
-            elim (cases-bool (has t i)) [
-              inl x ↦ absurd (both-ways (precedes t q) (not-after n i q t (f .inside .wide) (b .wide) (agree-trans i q s t (agree-sym i s q (agree-fewer i s q (f .inside .agrees))) (b .agrees)) at x) p)
-            | inr x ↦ f .before t (out-on t b x) p
-            ];
+              let at : has q i ≡ false = sym (f .inside .agrees i (omega arith)) ∙ is-out in
+              elim (cases-bool (has t i)) [
+                | inl x ↦ absurd (both-ways (precedes t q) (not-after n i q t (f .inside .wide) (b .wide) (agree-trans i q s t (agree-sym i s q (agree-fewer i s q (f .inside .agrees))) (b .agrees)) at x) p)
+                | inr x ↦ f .before t (out-on t b x) p
+              ];
         }
 
     pub without-some : (test : Set → Bool) (r : Option Set) → isSome r ≡ true → Found-in-branch n (i + 1) s from past test r → Found-in-branch n i s from past test r
@@ -193,7 +193,7 @@ module _ (n i : ℕ) (s from : Set) (past beyond : Bool) (wide : length from ≡
     without-before test e t b x =
         let h : past ≡ false = was-even e in
         absurd (both-ways (precedes t from) (b .reached h)
-          (precedes-at i t from (b .wide ∙ sym wide) (agree-trans i t s from (agree-sym i s t (b .agrees)) (even h)) x (from-has e)))
+        (precedes-at i t from (b .wide ∙ sym wide) (agree-trans i t s from (agree-sym i s t (b .agrees)) (even h)) x (from-has e)))
 
     pub out-even : past ≡ false → beyond ≡ true → Agree (i + 1) s from
     out-even e b = below-more _ i (even e) (is-out ∙ sym (from-lacks b e))
@@ -241,8 +241,8 @@ module _ (n i : ℕ) (s from : Set) (past beyond : Bool) (wide : length from ≡
       by-cases : (t : Set) → In-branch n i s from past t → None-without (is-open forced is) → (has t i ≡ true → is-open forced is t ≡ true → ⊥) → is-open forced is t ≡ false
       by-cases t b none f =
           elim (cases-bool (has t i)) [
-            inl x ↦ elim (cases-bool (is-open forced is t)) [ inl o ↦ absurd (f x o) | inr o ↦ o ]
-          | inr x ↦ none t b x
+            | inl x ↦ elim (cases-bool (is-open forced is t)) [ inl o ↦ absurd (f x o) | inr o ↦ o ]
+            | inr x ↦ none t b x
           ]
 
       pub with-found : Agree i s more → None-without (is-open forced is) → (r : Option Set)
@@ -268,4 +268,4 @@ same-agree n i a b l e c h = has-narrow i n a c h l ∙ ap (λ (s : Set). has s 
 pub agree-same : (n i a b : ℕ) → i ≤ n → Agree i (set-in n a) (set-in n b) → set-in i a ≡ set-in i b
 agree-same n i a b l agree =
     ext-getD false (set-in i a) (set-in i b) (length-set-in i a ∙ sym (length-set-in i b))
-      (λ c h. let less : c < i = omega (arith, length-set-in i a) in sym (has-narrow i n a c less l) ∙ agree c less ∙ has-narrow i n b c less l)
+    (λ c h. let less : c < i = omega (arith, length-set-in i a) in sym (has-narrow i n a c less l) ∙ agree c less ∙ has-narrow i n b c less l)

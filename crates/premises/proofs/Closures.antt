@@ -63,7 +63,7 @@ module _ (n : ℕ) (is : List Implication) where
         contains = common-contains n (respecting n is) s e;
         respected = common-respects over (respecting n is) s (kept-by-passes (λ (t : Set). respects-all t is) (sets n));
         least = λ t w h r.
-          let at = lectic-agrees n .listed t w in
-          let among : Has (sets n) t = rw (at .2) at (has-getD (sets n) (at .0) [] (omega (arith, at .1, lectic-agrees n .count))) in
-          common-inside n (respecting n is) s t (has-kept (λ (t : Set). respects-all t is) (sets n) t among r) h;
+            let at = lectic-agrees n .listed t w in
+            let among : Has (sets n) t = rw (at .2) at (has-getD (sets n) (at .0) [] (omega (arith, at .1, lectic-agrees n .count))) in
+            common-inside n (respecting n is) s t (has-kept (λ (t : Set). respects-all t is) (sets n) t among r) h;
       }

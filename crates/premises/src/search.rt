@@ -17,14 +17,14 @@ use implications::close;
 
 // What a search is over.
 #[derive(Drop)]
-pub struct Search<'a, F> {
+pub struct Search<'a, 'b, F> {
     pub n: AttributeCount,
     pub confirmed: &'a [u64],
-    pub forces: &'a F,
+    pub forces: &'b F,
     pub from: AttributeSet,
 }
 
-impl<F: Forces> Search<'_, F> {
+impl<F: Forces> Search<'_, '_, F> {
     // Whether a set that respects what is confirmed lacks an attribute that it forces.
     fn lacks_forced(&self, s: AttributeSet) -> bool
         ensures { λ r. ⌜ r ≡ not (subset (F·Forces .forced (now (now (self .entry) .forces)) (now (self .entry) .n .value) (set-in (now (self .entry) .n .value) (s .bits))) (set-in (now (self .entry) .n .value) (s .bits))) ⌝ }

@@ -40,9 +40,9 @@ returns-then-lacks-forced g t c =
     let lacks = not-true _ (sym (c .lacks-forced .ensures) ∙ c .if-lacks-forced .taken) in
     record {
       found =
-        subst (λ (i : ℕ). First-in-branch n i s from (c .args .past) (is-open forced is) s) last
+          subst (λ (i : ℕ). First-in-branch n i s from (c .args .past) (is-open forced is) s) last
           (last-found n s from (c .args .past) (length-set-in n (c .args .s .bits)) (is-open forced is) (length-set-in n (c .args .self .now .from .bits))
-            (λ e k h. c .pre .even e k (omega (arith, last))) (open-from forced is s (c .pre .respected) lacks));
+          (λ e k h. c .pre .even e k (omega (arith, last))) (open-from forced is s (c .pre .respected) lacks));
       bound = c .pre .bound;
     }
 
@@ -69,7 +69,7 @@ returns-then-contains g t c =
     let forced : Set → Set = g .F·Forces .forced (c .args .self .now .forces .now) n in
     record {
       found =
-        kept-found n (c .args .attribute) s from (c .args .past) (c .is-beyond-beyond .result) (length-set-in n (c .args .self .now .from .bits)) (c .pre .even) (c .is-beyond-beyond .ensures)
+          kept-found n (c .args .attribute) s from (c .args .past) (c .is-beyond-beyond .result) (length-set-in n (c .args .self .now .from .bits)) (c .pre .even) (c .is-beyond-beyond .ensures)
           (sym (c .contains .ensures n (c .pre .bound)) ∙ c .if-contains .taken) (is-open forced is) _ (c .first-in-branch .ensures .found);
       bound = c .first-in-branch .ensures .bound;
     }
@@ -84,7 +84,7 @@ returns-then-is-some g t c =
     let r : Option AttributeSet = c .first-in-branch-without .result in
     record {
       found =
-        without-some n (c .args .attribute) s from (c .args .past) (c .is-beyond-beyond .result) (length-set-in n (c .args .self .now .from .bits)) (c .pre .even) (c .is-beyond-beyond .ensures)
+          without-some n (c .args .attribute) s from (c .args .past) (c .is-beyond-beyond .result) (length-set-in n (c .args .self .now .from .bits)) (c .pre .even) (c .is-beyond-beyond .ensures)
           (sym (c .contains .ensures n (c .pre .bound)) ∙ c .if-contains .left) (is-open forced is) (mapped (λ (q : AttributeSet). set-in n (q .bits)) r)
           (some-mapped n r ∙ sym (c .is-some .ensures) ∙ c .if-is-some .taken) (c .first-in-branch-without .ensures .found);
       bound = c .first-in-branch-without .ensures .bound;
@@ -96,11 +96,27 @@ first-in-branch-requires-2 g t c κs within =
     let is : List Implication = implications-in n (c .args .self .now .confirmed .now) in
     let forced : Set → Set = g .F·Forces .forced (c .args .self .now .forces .now) n in
     let closed = c .in-Some .ensures tt .cases in
-    let less : c .args .attribute < length (set-in n (c .args .s .bits)) = omega (arith, length-set-in n (c .args .s .bits)) in
-    (search needs, (search needs, (c .pre .from, (c .in-Some .ensures tt .bound, (omega arith, (closed .closed .respected,
-      with-even n (c .args .attribute) (set-in n (c .args .s .bits)) (set-in n (c .args .self .now .from .bits)) (c .args .past) (c .is-beyond-beyond .result)
-        (length-set-in n (c .args .self .now .from .bits)) (c .pre .even) (c .is-beyond-beyond .ensures)
-        (sym (c .contains .ensures n (c .pre .bound)) ∙ c .if-contains .left) is forced (set-in n (c .in-Some .with .bits)) less (closed .closed) (closed .agrees)))))))
+    let less : c .args .attribute < length (set-in n (c .args .s .bits)) = omega (arith, length-set-in n (c .args .s .bits)) in (
+      search needs,
+      (
+        search needs,
+        (
+          c .pre .from,
+          (
+            c .in-Some .ensures tt .bound,
+            (
+              omega arith,
+              (
+                closed .closed .respected,
+                with-even n (c .args .attribute) (set-in n (c .args .s .bits)) (set-in n (c .args .self .now .from .bits)) (c .args .past) (c .is-beyond-beyond .result)
+                    (length-set-in n (c .args .self .now .from .bits)) (c .pre .even) (c .is-beyond-beyond .ensures)
+                    (sym (c .contains .ensures n (c .pre .bound)) ∙ c .if-contains .left) is forced (set-in n (c .in-Some .with .bits)) less (closed .closed) (closed .agrees),
+              ),
+            ),
+          ),
+        ),
+      ),
+    )
 
 pub returns-in-rest : need.returns-in-rest
 returns-in-rest g t c =
@@ -113,22 +129,22 @@ returns-in-rest g t c =
     let wide : length from ≡ n = length-set-in n (c .args .self .now .from .bits) in
     let out : has s i ≡ false = sym (c .contains .ensures n (c .pre .bound)) ∙ c .if-contains .left in
     let none : None-without n i s from (c .args .past) (c .is-beyond-beyond .result) wide (c .pre .even) (c .is-beyond-beyond .ensures) out (is-open forced is) =
-      elim (c .if-beyond .came) [
-        then-beyond·else-is-some w ↦
+    elim (c .if-beyond .came) [
+      | then-beyond·else-is-some w ↦
           without-none n i s from (c .args .past) (c .is-beyond-beyond .result) wide (c .pre .even) (c .is-beyond-beyond .ensures) out (is-open forced is)
-            (mapped (λ (q : AttributeSet). set-in n (q .bits)) (w .first-in-branch-without .result))
-            (some-mapped n (w .first-in-branch-without .result) ∙ sym (w .is-some .ensures) ∙ w .if-is-some .left) (w .first-in-branch-without .ensures .found)
+          (mapped (λ (q : AttributeSet). set-in n (q .bits)) (w .first-in-branch-without .result))
+          (some-mapped n (w .first-in-branch-without .result) ∙ sym (w .is-some .ensures) ∙ w .if-is-some .left) (w .first-in-branch-without .ensures .found)
       | else-beyond w ↦ without-before n i s from (c .args .past) (c .is-beyond-beyond .result) wide (c .pre .even) (c .is-beyond-beyond .ensures) out (is-open forced is) (w .if-beyond .left)
-      ]
+    ]
     in
     let less : i < length s = omega (arith, length-set-in n (c .args .s .bits)) in
     let grown : Set = set s i true in
     let closed : Closure n is grown (closure n is grown) =
-      closure-is-common n is (implications-over n (c .args .self .now .confirmed .now)) grown (length-set s i true ∙ length-set-in n (c .args .s .bits))
+    closure-is-common n is (implications-over n (c .args .self .now .confirmed .now)) grown (length-set s i true ∙ length-set-in n (c .args .s .bits))
     in
     record {
       found =
-        with-none n i s from (c .args .past) (c .is-beyond-beyond .result) wide (c .pre .even) (c .is-beyond-beyond .ensures) out is forced (closure n is grown) less closed
+          with-none n i s from (c .args .past) (c .is-beyond-beyond .result) wide (c .pre .even) (c .is-beyond-beyond .ensures) out is forced (closure n is grown) less closed
           (λ a. c .in-rest .ensures tt .cases (closure n is grown) (record { closed = closed; agrees = a })) none;
       bound = tt;
     }
@@ -144,19 +160,19 @@ returns g t c =
     let wide : length from ≡ n = length-set-in n (c .args .self .now .from .bits) in
     let out : has s i ≡ false = sym (c .contains .ensures n (c .pre .bound)) ∙ c .if-contains .left in
     let none : None-without n i s from (c .args .past) (c .is-beyond-beyond .result) wide (c .pre .even) (c .is-beyond-beyond .ensures) out (is-open forced is) =
-      elim (c .if-beyond .came) [
-        then-beyond·else-is-some w ↦
+    elim (c .if-beyond .came) [
+      | then-beyond·else-is-some w ↦
           without-none n i s from (c .args .past) (c .is-beyond-beyond .result) wide (c .pre .even) (c .is-beyond-beyond .ensures) out (is-open forced is)
-            (mapped (λ (q : AttributeSet). set-in n (q .bits)) (w .first-in-branch-without .result))
-            (some-mapped n (w .first-in-branch-without .result) ∙ sym (w .is-some .ensures) ∙ w .if-is-some .left) (w .first-in-branch-without .ensures .found)
+          (mapped (λ (q : AttributeSet). set-in n (q .bits)) (w .first-in-branch-without .result))
+          (some-mapped n (w .first-in-branch-without .result) ∙ sym (w .is-some .ensures) ∙ w .if-is-some .left) (w .first-in-branch-without .ensures .found)
       | else-beyond w ↦ without-before n i s from (c .args .past) (c .is-beyond-beyond .result) wide (c .pre .even) (c .is-beyond-beyond .ensures) out (is-open forced is) (w .if-beyond .left)
-      ]
+    ]
     in
     let less : i < length s = omega (arith, length-set-in n (c .args .s .bits)) in
     let closed = c .in-Some .ensures tt .cases in
     record {
       found =
-        with-found n i s from (c .args .past) (c .is-beyond-beyond .result) wide (c .pre .even) (c .is-beyond-beyond .ensures) out is forced (set-in n (c .in-Some .with .bits)) less (closed .closed)
+          with-found n i s from (c .args .past) (c .is-beyond-beyond .result) wide (c .pre .even) (c .is-beyond-beyond .ensures) out is forced (set-in n (c .in-Some .with .bits)) less (closed .closed)
           (closed .agrees) none (mapped (λ (q : AttributeSet). set-in n (q .bits)) (c .first-in-branch-2 .result)) (c .first-in-branch-2 .ensures .found);
       bound = c .first-in-branch-2 .ensures .bound;
     }

@@ -28,7 +28,7 @@ returns-then-eq g c =
     let more : Set = set-in n (c .close-with .result .bits) in
     let added : set-in n (c .with .result .bits) ≡ set (set-in n (c .args .s .bits)) i true = c .with .ensures .value n (omega (arith, c .args .self .now .n .few)) in
     let same : set-in i (c .args .s .bits) ≡ set-in i (c .close-with .result .bits) =
-      sym (c .below-2 .ensures .value) ∙ ap (set-in i) (sym (c .eq .ensures .0 (c .if-eq .taken))) ∙ c .below .ensures .value
+    sym (c .below-2 .ensures .value) ∙ ap (set-in i) (sym (c .eq .ensures .0 (c .if-eq .taken))) ∙ c .below .ensures .value
     in
     record {
       cases = record {
@@ -48,11 +48,11 @@ returns-else-eq g c =
     let added : set-in n (c .with .result .bits) ≡ grown = c .with .ensures .value n (omega (arith, c .args .self .now .n .few)) in
     record {
       cases = λ m h.
-        let is-more : m ≡ more = one-closure n is grown m more (h .closed) (subst (λ (s : Set). Closure n is s more) added (c .close-with .ensures .value)) in
-        let same : set-in i (c .args .s .bits) ≡ set-in i (c .close-with .result .bits) =
+          let is-more : m ≡ more = one-closure n is grown m more (h .closed) (subst (λ (s : Set). Closure n is s more) added (c .close-with .ensures .value)) in
+          let same : set-in i (c .args .s .bits) ≡ set-in i (c .close-with .result .bits) =
           agree-same n i (c .args .s .bits) (c .close-with .result .bits) (c .pre .there) (subst (Agree i (set-in n (c .args .s .bits))) is-more (h .agrees))
-        in
-        both-ways (c .eq .result) (c .if-eq .left)
+          in
+          both-ways (c .eq .result) (c .if-eq .left)
           (c .eq .ensures .1 (same-number i (c .below .result .bits) (c .below-2 .result .bits) (c .below .ensures .bound) (c .below-2 .ensures .bound) (c .below .ensures .value ∙ sym same ∙ sym (c .below-2 .ensures .value))));
       bound = tt;
     }
