@@ -1,3 +1,4 @@
+mod Faults
 mod Opening
 pub mod Pairs
 pub mod Question

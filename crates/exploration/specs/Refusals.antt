@@ -6,17 +6,23 @@ use Rattle.std.specs.Written.{decimal}
 use Rattle.attributes.specs.Numbers.{set-in}
 use Rattle.attributes.specs.Text.{written}
 use Rattle.exploration.specs.declared.reply.Refusal.{Refusal}
-use Rattle.exploration.specs.declared.reply.Refusal.the-variants.{RowTooShort, TooManyAttributes}
+use Rattle.exploration.specs.declared.reply.Refusal.the-variants.{RowTooShort, TooManyImplications, TooManyExamples, TooManyAttributes, UnknownAttribute}
 use Rattle.exploration.specs.declared.reply.Reply.{Reply}
 use Rattle.exploration.specs.declared.reply.Reply.the-variants.{Question, Finished, Refused}
 
 abbrev pub refusal-number : Refusal → ℕ
 refusal-number (RowTooShort length) = 1
+refusal-number TooManyImplications = 1
+refusal-number TooManyExamples = 1
 refusal-number TooManyAttributes = 2
+refusal-number (UnknownAttribute place) = 2
 
 abbrev pub refusal-place : Refusal → ℕ
 refusal-place (RowTooShort length) = length
+refusal-place TooManyImplications = 1
+refusal-place TooManyExamples = 2
 refusal-place TooManyAttributes = 0
+refusal-place (UnknownAttribute place) = place
 
 abbrev pub reply-text : Reply → List ℕ
 reply-text (Question q) =

@@ -1,26 +1,72 @@
 -- What is known, as a lent row of numbers: how many attributes there are, the count of the implications confirmed, the count of the
 -- examples named, room for 4,096 implications of two sets each, and room for 4,096 examples. Definitions only.
 use mathlib.Core.Bool.{cond}
-use mathlib.Core.List.{List}
-use Prim.Native.Nat.{ℕ}
+use mathlib.Core.List.{List, [], _∷_}
+use Prim.Native.Nat.{ℕ, suc, _*_, _^_}
 use lib.Dec.{ltb}
-use lib.ListN.{length, set}
+use lib.ListN.{length, getD, take, drop, set}
 use Rattle.std.specs.declared.option.Option.{Option}
 use Rattle.std.specs.declared.option.Option.the-variants.{Some, None}
-use Rattle.std.specs.declared.result.Result.{Result}
-use Rattle.std.specs.declared.result.Result.the-variants.{Ok, Err}
 use Rattle.attributes.specs.Numbers.{number-of}
 use Rattle.contexts.specs.Contexts.{Implication}
-use Rattle.exploration.specs.Dialogue.{nothing-known, question}
+use Rattle.contexts.specs.Values.{objects-in}
+use Rattle.implications.specs.Values.{implications-in}
+use Rattle.exploration.specs.Dialogue.{Knowledge, nothing-known, question}
 use Rattle.exploration.specs.declared.reply.Refusal.{Refusal}
-use Rattle.exploration.specs.declared.reply.Refusal.the-variants.{RowTooShort, TooManyAttributes}
+use Rattle.exploration.specs.declared.reply.Refusal.the-variants.{RowTooShort, TooManyImplications, TooManyExamples, TooManyAttributes, UnknownAttribute}
 use Rattle.exploration.specs.declared.reply.Reply.{Reply}
 use Rattle.exploration.specs.declared.reply.Reply.the-variants.{Question, Finished, Refused}
+
+abbrev pub attributes-in : List ℕ → ℕ
+attributes-in row = getD row 0 0
+
+-- the numbers of the implications, two for each, and those of the examples
+abbrev pub implication-part : List ℕ → List ℕ
+implication-part row = take (2 * getD row 1 0) (drop 3 row)
+
+abbrev pub example-part : List ℕ → List ℕ
+example-part row = take (getD row 2 0) (drop 8195 row)
+
+-- what a row knows
+abbrev pub known-in : List ℕ → Knowledge
+known-in row = record { confirmed = implications-in (attributes-in row) (implication-part row); examples = objects-in (attributes-in row) (example-part row) }
+
+-- the place, counted from `at`, of the first number that is not below the limit
+unfoldable pub first-from : ℕ → ℕ → List ℕ → Option ℕ
+first-from limit at [] = None
+first-from limit at (m ∷ ms) = cond (ltb m limit) (first-from limit (suc at) ms) (Some at)
+
+abbrev pub unknown-at : Option ℕ → Option ℕ → Option Refusal
+unknown-at (Some place) later = Some (UnknownAttribute place)
+unknown-at None (Some place) = Some (UnknownAttribute place)
+unknown-at None None = None
+
+-- the first number of the row that has an attribute that is not there
+abbrev pub unknown-attribute : List ℕ → Option Refusal
+unknown-attribute row =
+    unknown-at (first-from (2 ^ attributes-in row) 3 (implication-part row)) (first-from (2 ^ attributes-in row) 8195 (example-part row))
+
+-- the first refusal that applies to the row
+abbrev pub row-fault : List ℕ → Option Refusal
+row-fault row =
+    cond (ltb (length row) 12291) (Some (RowTooShort (length row)))
+    (cond (ltb 4096 (getD row 1 0)) (Some TooManyImplications)
+    (cond (ltb 4096 (getD row 2 0)) (Some TooManyExamples)
+    (cond (ltb 12 (attributes-in row)) (Some TooManyAttributes)
+    (unknown-attribute row))))
 
 -- what is asked, as a reply
 abbrev pub reply-of : Option Implication → Reply
 reply-of None = Finished
 reply-of (Some q) = Question (record { premise = record { bits = number-of (q .premise) }; conclusion = record { bits = number-of (q .conclusion) } })
+
+abbrev pub reply-unless : Option Refusal → Reply → Reply
+reply-unless None reply = reply
+reply-unless (Some fault) reply = Refused fault
+
+-- the reply to a row: the first refusal that applies, or what is asked next
+abbrev pub asked-of : List ℕ → Reply
+asked-of row = reply-unless (row-fault row) (reply-of (question (attributes-in row) (known-in row)))
 
 -- the reply to opening a row for n attributes: the first refusal that applies, or what is asked when nothing is known
 abbrev pub opening : ℕ → List ℕ → Reply

@@ -8,6 +8,7 @@ use attributes::AttributeSet;
 use contexts::Implication;
 
 mod reply;
+mod row;
 
 pub use reply::Refusal;
 pub use reply::Reply;

@@ -12,8 +12,14 @@ use std::fmt;
 pub enum Refusal {
     // The lent row has this length, and that is too short.
     RowTooShort(usize),
+    // The row counts more than 4,096 implications.
+    TooManyImplications,
+    // The row counts more than 4,096 examples.
+    TooManyExamples,
     // There are more than twelve attributes.
     TooManyAttributes,
+    // The number at this place of the row has an attribute that is not there.
+    UnknownAttribute(usize),
 }
 
 impl Refusal {
@@ -22,8 +28,8 @@ impl Refusal {
         ensures { λ r. ⌜ r ≡ refusal-number self ⌝ }
     {
         match self {
-            Refusal::RowTooShort(_) => 1,
-            Refusal::TooManyAttributes => 2,
+            Refusal::RowTooShort(_) | Refusal::TooManyImplications | Refusal::TooManyExamples => 1,
+            Refusal::TooManyAttributes | Refusal::UnknownAttribute(_) => 2,
         }
     }
 
@@ -33,7 +39,10 @@ impl Refusal {
     {
         match self {
             Refusal::RowTooShort(length) => length as u64,
+            Refusal::TooManyImplications => 1,
+            Refusal::TooManyExamples => 2,
             Refusal::TooManyAttributes => 0,
+            Refusal::UnknownAttribute(place) => place as u64,
         }
     }
 }
