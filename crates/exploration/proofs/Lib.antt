@@ -1,4 +1,5 @@
 mod Opening
+pub mod Least
 pub mod Pairs
 pub mod Question
 pub mod Run

@@ -44,7 +44,7 @@ module _ (n : ℕ) (u : Context) where
   )
 
   -- what is asked has not all of what it concludes
-  breaks-itself : (is : List Implication) (q : Implication) → Asks n is u q → respects (q .premise) q ≡ true → ⊥
+  pub breaks-itself : (is : List Implication) (q : Implication) → Asks n is u q → respects (q .premise) q ≡ true → ⊥
   breaks-itself is q a h = both-ways (subset (q .conclusion) (q .premise)) (a .opens) (respects-apply (q .premise) q h (subset-refl (q .premise)))
 
   independent : (is : List Implication) (r q : Implication) → Asks n is u r → Later n u (is ++ r ∷ []) q → Independent r q
