@@ -18,7 +18,7 @@ use Rattle.implications.specs.Implications.{Over, respects-all, all-hold, Follo
 use Rattle.implications.proofs.Respects.{respects-has, has-respects, respects-fewer, respects-append, breaks-member, all-hold-has, has-all-hold, one-set-decides, meet-respects, meet-respects-one}
 use Rattle.exploration.specs.Promise.{Pairwise}
 use Rattle.exploration.proofs.Pairs.{pairwise-has, pairwise-around, pairwise-weaker, at-most}
-use Rattle.exploration.proofs.Question.{Asks, Shut}
+use Rattle.exploration.proofs.Question.{Asks, Shut, asks-concluded, asks-holds}
 use Rattle.exploration.proofs.Run.{Run, Later, Independent, run-later, run-independent, breaks-itself}
 
 turned : (r q : Implication) → Independent r q → Independent q r
@@ -34,14 +34,6 @@ module _ (n : ℕ) (u : Context) (wide : Of-width n u) where
   shut-follows is shut i e h =
       one-set-decides n is i .all (λ s w r. respects-from s i (λ p. subset-trans (i .conclusion) (common n u s) s (forces i e h s p) (shut s w r)))
 
-  asks-concluded : (is : List Implication) (q : Implication) → Asks n is u q → length (q .conclusion) ≡ n
-  asks-concluded is q a = ap length (a .concludes) ∙ length-common n u (q .premise) wide
-
-  -- what a yard asks holds for it
-  asks-holds : (is : List Implication) (q : Implication) → Asks n is u q → holds u q ≡ true
-  asks-holds is q a =
-      holds-by-common n u q (asks-concluded is q a) ∙ subst (λ (c : Set). subset (q .conclusion) c ≡ true) (a .concludes) (subset-refl (q .conclusion))
-
   module _ (is rs : List Implication) (run : Run n u is rs) where
     later : (r : Implication) → Has rs r → Later n u is r
     later r m = all-has (Later n u is) rs r (run-later n u is rs run) m
@@ -50,7 +42,7 @@ module _ (n : ℕ) (u : Context) (wide : Of-width n u) where
     before r m = let l = later r m in respects-fewer (r .premise) is (l .0) (l .1) (l .2 .respected)
 
     pub run-holds : all-hold u rs ≡ true
-    run-holds = has-all-hold u rs (λ r m. let l = later r m in asks-holds (l .0) r (l .2))
+    run-holds = has-all-hold u rs (λ r m. let l = later r m in asks-holds n u wide (l .0) r (l .2))
 
     apart : Pairwise Independent rs
     apart = run-independent n u is rs run
@@ -114,7 +106,7 @@ module _ (n : ℕ) (u : Context) (wide : Of-width n u) where
           let a = l .2 in
           elim (cases-bool (respects-all (r .premise) others)) [
             | inl e ↦
-                absurd (breaks-itself n u (l .0) r a (one-set-decides n (is ++ others) r .each (complete .all r (a .wide, asks-concluded (l .0) r a) (asks-holds (l .0) r a)) (r .premise) (a .wide) (respects-append (r .premise) is others (before r m) e)))
+                absurd (breaks-itself n u (l .0) r a (one-set-decides n (is ++ others) r .each (complete .all r (a .wide, asks-concluded n u wide (l .0) r a) (asks-holds n u wide (l .0) r a)) (r .premise) (a .wide) (respects-append (r .premise) is others (before r m) e)))
             | inr e ↦
                 let b = breaks-member (r .premise) others e in
                 (b .0, b .1, record { broken = b .2; true-there = all-hold-has u (is ++ others) (complete .sound) (b .0) (has-append-right is others (b .0) (b .1)); concluded = all-has (Over n) others (b .0) over (b .1) .1 })

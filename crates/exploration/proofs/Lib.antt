@@ -2,5 +2,6 @@ mod Opening
 pub mod Least
 pub mod Pairs
 pub mod Question
+pub mod Reached
 pub mod Run
 mod Worked

@@ -1,5 +1,5 @@
 -- What is asked, by its parts; and with what is true of a yard, what its examples ask the yard itself asks. Assumes nothing.
-use mathlib.Core.Path.{_≡_, refl, sym, ap, _∙_}
+use mathlib.Core.Path.{_≡_, refl, sym, ap, subst, _∙_}
 use mathlib.Core.Bool.{Bool, true, false}
 use mathlib.Core.List.{List}
 use Prim.Native.Nat.{ℕ}
@@ -12,7 +12,7 @@ use Rattle.std.proofs.shelf.Elements.{all-has}
 use Rattle.attributes.specs.Sets.{Set, subset}
 use Rattle.attributes.specs.Lectic.{precedes, sets}
 use Rattle.attributes.proofs.Members.{all-from-has}
-use Rattle.attributes.proofs.Sets.{subset-trans, subset-antisym}
+use Rattle.attributes.proofs.Sets.{subset-refl, subset-trans, subset-antisym}
 use Rattle.contexts.specs.Contexts.{Context, Of-width, Implication, common, holds}
 use Rattle.contexts.proofs.Common.{length-common, common-fewer, holds-by-common}
 use Rattle.implications.specs.Implications.{respects-all}
@@ -84,6 +84,14 @@ module _ (n : ℕ) (is : List Implication) (t : Context) where
   unfolding question first-open
   shut-asks-none h = ap (mapped about) (first-laws n (is-open (common n t) is) .nothing (λ s w. shut-from (common n t) is s (h s w)))
 
+-- what a context asks holds for it
+module _ (n : ℕ) (t : Context) (wide : Of-width n t) (is : List Implication) (q : Implication) (a : Asks n is t q) where
+  pub asks-concluded : length (q .conclusion) ≡ n
+  asks-concluded = ap length (a .concludes) ∙ length-common n t (q .premise) wide
+
+  pub asks-holds : holds t q ≡ true
+  asks-holds = holds-by-common n t q asks-concluded ∙ subst (λ (c : Set). subset (q .conclusion) c ≡ true) (a .concludes) (subset-refl (q .conclusion))
+
 -- t: the examples, which stand in the yard u
 module _ (n : ℕ) (t u : Context) (wide : Of-width n u) (stand : (o : Set) → Has t o → Has u o) where
   -- a set that is closed among the examples is closed in the yard
@@ -97,7 +105,7 @@ module _ (n : ℕ) (t u : Context) (wide : Of-width n u) (stand : (o : Set) → 
   pub same-question : (is : List Implication) (q : Implication) → Asks n is t q → holds u q ≡ true → Asks n is u q
   same-question is q a h =
       let s : Set = q .premise in
-      let concluded : length (q .conclusion) ≡ n = ap length (a .concludes) ∙ length-common n t s narrow in
+      let concluded = asks-concluded n t narrow is q a in
       let concludes : q .conclusion ≡ common n u s =
         subset-antisym (q .conclusion) (common n u s) (concluded ∙ sym (length-common n u s wide))
         (sym (holds-by-common n u q concluded) ∙ h) (rw (a .concludes) (common-fewer n t u s wide stand)) in

@@ -11,8 +11,9 @@ use Rattle.std.proofs.shelf.Elements.{all-weaker, has-append-left, has-push}
 use Rattle.std.proofs.shelf.Tests.{both-ways}
 use Rattle.attributes.specs.Sets.{Set, subset}
 use Rattle.attributes.proofs.Lectic.{subset-first}
+use Rattle.attributes.proofs.Members.{has-here, has-there}
 use Rattle.attributes.proofs.Sets.{subset-refl}
-use Rattle.contexts.specs.Contexts.{Context, Implication, common, respects}
+use Rattle.contexts.specs.Contexts.{Context, Of-width, Implication, common, respects, holds}
 use Rattle.contexts.proofs.Holds.{respects-apply, respects-from}
 use Rattle.implications.specs.Implications.{respects-all}
 use Rattle.implications.proofs.Respects.{respects-has, respects-fewer}
@@ -20,7 +21,7 @@ use Rattle.premises.proofs.First.{no-some}
 use Rattle.exploration.specs.Dialogue.{question}
 use Rattle.exploration.specs.Promise.{Pairwise}
 use Rattle.exploration.proofs.Pairs.{pairwise-weaker, at-most-sets}
-use Rattle.exploration.proofs.Question.{Asks, Shut, known, asked, shut-asks-none}
+use Rattle.exploration.proofs.Question.{Asks, Shut, known, asked, shut-asks-none, same-question}
 
 -- each member of rs in turn is what the yard u asks with the implications is and the members before it
 abbrev pub Run : ℕ → Context → List Implication → List Implication → Type 0
@@ -85,3 +86,13 @@ module _ (n : ℕ) (u : Context) where
         same-run (is ++ r ∷ []) rs qs (p .1) (rw (sym same) at (m .1)) (subst (λ (l : List Implication). Shut n l u) (split rs) h)
         (subst (λ (l : List Implication). Shut n l u) (ap (λ (i : Implication). is ++ i ∷ qs) (sym same) ∙ split qs) k) in
       cc
+
+  pub run-push : (is rs : List Implication) (q : Implication) → Run n u is rs → Asks n (is ++ rs) u q → Run n u is (rs ++ q ∷ [])
+  run-push is [] q run a = (rw append-nil at a, tt)
+  run-push is (r ∷ rs) q run a = (run .0, run-push (is ++ r ∷ []) rs q (run .1) (subst (λ (l : List Implication). Asks n l u q) (sym (append-assoc is (r ∷ []) rs)) a))
+
+-- what examples ask, their yard asks, where the answers are true
+pub run-grows : (n : ℕ) (t u : Context) → Of-width n u → ((o : Set) → Has t o → Has u o) → (is rs : List Implication) → ((r : Implication) → Has rs r → holds u r ≡ true) → Run n t is rs → Run n u is rs
+run-grows n t u wide stand is [] h run = tt
+run-grows n t u wide stand is (r ∷ rs) h run =
+    (same-question n t u wide stand is r (run .0) (h r (has-here r rs)), run-grows n t u wide stand (is ++ r ∷ []) rs (λ q m. h q (has-there r rs q m)) (run .1))

@@ -8,7 +8,7 @@ use native.Mathlib.Omega.{arith}
 use lib.ListN.{length}
 use Rattle.std.specs.Orderings.{Decides}
 use Rattle.std.specs.shelf.Lists.{All, Has}
-use Rattle.std.proofs.shelf.Elements.{all-append, all-has}
+use Rattle.std.proofs.shelf.Elements.{all-append, all-has, all-push}
 use Rattle.std.proofs.shelf.Tests.{and-cases, both-ways}
 use Rattle.std.proofs.shelf.Ways.{decides-by-and}
 use Rattle.attributes.specs.Sets.{Set, meet}
@@ -57,6 +57,9 @@ all-hold-has t is h i m = all-has (λ (i : Implication). holds t i ≡ true) is 
 
 pub has-all-hold : (t : Context) (is : List Implication) → ((i : Implication) → Has is i → holds t i ≡ true) → all-hold t is ≡ true
 has-all-hold t is h = hold-each t is .1 (all-from-has (λ (i : Implication). holds t i ≡ true) is h)
+
+pub all-hold-push : (t : Context) (is : List Implication) (i : Implication) → all-hold t is ≡ true → holds t i ≡ true → all-hold t (is ++ i ∷ []) ≡ true
+all-hold-push t is i h k = hold-each t (is ++ i ∷ []) .1 (all-push (λ (j : Implication). holds t j ≡ true) is i (hold-each t is .0 h) k)
 
 -- a list holds for a context exactly if each object respects the list
 pub object-respects : (t : Context) (is : List Implication) → all-hold t is ≡ true → (o : Set) → Has t o → respects-all o is ≡ true
