@@ -4,4 +4,5 @@ pub mod Pairs
 pub mod Question
 pub mod Reached
 pub mod Run
+pub mod Truth
 mod Worked
