@@ -19,7 +19,7 @@ use Rattle.implications.specs.Implications.{respects-all}
 use Rattle.premises.specs.Open.{is-open, first, first-open}
 use Rattle.premises.specs.Laws.{Is-first}
 use Rattle.premises.proofs.First.{first-laws, no-some}
-use Rattle.premises.proofs.Open.{open-parts, open-from, shut, shut-from}
+use Rattle.premises.proofs.Open.{open-parts, open-from, shut, shut-from, stays-shut}
 use Rattle.exploration.specs.Dialogue.{Knowledge, question}
 
 -- the question about a context t with the implications is: its premise is the first set that respects them and is not closed
@@ -119,3 +119,7 @@ module _ (n : ℕ) (t u : Context) (wide : Of-width n u) (stand : (o : Set) → 
 
   pub same-end : (is : List Implication) → Shut n is t → Shut n is u
   same-end is h s w r = stays-closed s (h s w r)
+
+  -- a set that precedes what was asked about is not open once more is known
+  pub passed : (is more : List Implication) → ((i : Implication) → Has is i → Has more i) → (q : Implication) → Asks n is t q → (s : Set) → length s ≡ n → precedes s (q .premise) ≡ true → is-open (common n u) more s ≡ false
+  passed is more add q a s w p = stays-shut (common n t) (common n u) is more s add (common-fewer n t u s wide stand) (shut-from (common n t) is s (a .earlier s w p))

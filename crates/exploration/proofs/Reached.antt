@@ -19,7 +19,7 @@ use Rattle.contexts.proofs.Holds.{breaks}
 use Rattle.implications.specs.Implications.{respects-all, all-hold}
 use Rattle.implications.proofs.Respects.{all-hold-has, object-respects, objects-hold, all-hold-push}
 use Rattle.exploration.specs.Dialogue.{Knowledge, nothing-known, question, Answer, always, object, taken, with-answer, after, after-all}
-use Rattle.exploration.specs.Promise.{Pairwise}
+use Rattle.exploration.specs.Promise.{learnt, Pairwise}
 use Rattle.exploration.proofs.Pairs.{pairwise-push}
 use Rattle.exploration.proofs.Question.{Asks, asks, asks-holds}
 use Rattle.exploration.proofs.Run.{Run, run-push, run-grows}
@@ -91,6 +91,6 @@ unfolding after-all
 reached-all n is k reached [] = reached
 reached-all n is k reached (answer ∷ answers) = reached-all n is (after n k answer) (reached-after n is k reached answer) answers
 
-pub reached-none : (n : ℕ) → Reached n [] nothing-known
+pub reached-learnt : (n : ℕ) (answers : List Answer) → Reached n [] (learnt n answers)
 unfolding all-hold
-reached-none n = record { wide = tt; once = tt; hold = refl; rules = []; confirmed = refl; run = tt }
+reached-learnt n answers = reached-all n [] nothing-known (record { wide = tt; once = tt; hold = refl; rules = []; confirmed = refl; run = tt }) answers
