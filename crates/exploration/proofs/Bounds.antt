@@ -1,7 +1,7 @@
 -- How many implications, examples and answers there can be, and that no implication is spare. Assumes nothing.
-use mathlib.Core.Path.{_≡_, refl, sym, ap, subst, _∙_}
+use mathlib.Core.Path.{_≡_, refl, sym, _∙_}
 use mathlib.Core.Bool.{true}
-use mathlib.Core.List.{List, [], _∷_, _++_}
+use mathlib.Core.List.{[]}
 use Prim.Native.Nat.{ℕ, _+_, _^_, _≤_}
 use native.Mathlib.Omega.{arith}
 use lib.ListN.{length}
@@ -12,7 +12,7 @@ use Rattle.std.proofs.shelf.Lists.{length-push}
 use Rattle.std.proofs.shelf.Tests.{both-ways, cond-true}
 use Rattle.attributes.specs.Sets.{Set}
 use Rattle.exploration.specs.Dialogue.{Knowledge, nothing-known, question, Answer, always, object, taken, with-answer, after}
-use Rattle.exploration.specs.Promise.{learnt, Honest, Few, Few-of-each, Answers-bounded, Room, Always-room, None-is-spare}
+use Rattle.exploration.specs.Promise.{learnt, Few, Few-of-each, Answers-bounded, Room, Always-room, None-is-spare}
 use Rattle.exploration.proofs.Finish.{nothing-fits}
 use Rattle.exploration.proofs.Least.{none-spare}
 use Rattle.exploration.proofs.Pairs.{at-most-sets}

@@ -1,6 +1,5 @@
 -- The end of a truthful dialogue: what is confirmed is least for the yard and determined by it, and the examples tell what holds. Assumes nothing.
 use mathlib.Core.Path.{_≡_, refl, sym, subst, _∙_}
-use mathlib.Core.Bool.{true}
 use mathlib.Core.List.{List, [], _++_}
 use Prim.Native.Nat.{ℕ, _≤_}
 use native.Mathlib.Omega.{arith}
@@ -9,13 +8,12 @@ use Rattle.std.specs.declared.option.Option.the-variants.{None}
 use Rattle.std.specs.shelf.Lists.{All, Has}
 use Rattle.std.proofs.shelf.Elements.{has-append-right}
 use Rattle.std.proofs.shelf.Ways.{same-from-decides}
-use Rattle.attributes.specs.Sets.{Set}
 use Rattle.contexts.specs.Contexts.{Context, Of-width, Implication, holds}
 use Rattle.contexts.proofs.Holds.{holds-has, has-holds}
-use Rattle.implications.specs.Implications.{Over, all-hold, Complete, Least}
+use Rattle.implications.specs.Implications.{Over, all-hold, Complete}
 use Rattle.implications.proofs.Respects.{all-hold-has}
 use Rattle.exploration.specs.Dialogue.{Knowledge, nothing-known, question, Answer}
-use Rattle.exploration.specs.Promise.{learnt, Honest, Explored, Main-promise, Same-implications, Truth-kept, Truth-is-taken}
+use Rattle.exploration.specs.Promise.{learnt, Honest, Main-promise, Same-implications, Truth-is-taken}
 use Rattle.exploration.proofs.Least.{shut-follows, fewest}
 use Rattle.exploration.proofs.Question.{Shut, none-asked, same-end}
 use Rattle.exploration.proofs.Reached.{Reached, reached-learnt}
@@ -45,9 +43,10 @@ module _ (n : ℕ) (yard : Context) (wide : Of-width n yard) (is : List Implicat
 
     pub examples-tell : (i : Implication) → Over n i → holds (k .examples) i ≡ holds yard i
     examples-tell i over =
-        same-from-decides (holds (k .examples) i) (holds yard i)
-        (λ h. shut-follows n (k .examples) (reached .wide) (k .confirmed) examples-shut i (over .1) h yard wide (fits .hold),
-          λ h. has-holds (k .examples) i (λ o m. holds-has yard i h o (fits .stand o m)))
+        same-from-decides (holds (k .examples) i) (holds yard i) (
+          λ h. shut-follows n (k .examples) (reached .wide) (k .confirmed) examples-shut i (over .1) h yard wide (fits .hold),
+          λ h. has-holds (k .examples) i (λ o m. holds-has yard i h o (fits .stand o m)),
+        )
         (λ h. h, λ h. h)
 
     pub no-shorter : (others : List Implication) → All (Over n) others → Complete n yard (is ++ others) → length (reached .rules) ≤ length others
@@ -72,10 +71,10 @@ main-promise n yard answers honest finished =
     let fits = fits-learnt n yard answers honest in
     record {
       least =
-        record {
-          complete = complete n yard (honest .wide) [] k reached fits finished;
-          fewest = λ others over c. subst (λ (l : List Implication). length l ≤ length others) (sym (reached .confirmed)) (no-shorter n yard (honest .wide) [] k reached fits finished others over c);
-        };
+          record {
+            complete = complete n yard (honest .wide) [] k reached fits finished;
+            fewest = λ others over c. subst (λ (l : List Implication). length l ≤ length others) (sym (reached .confirmed)) (no-shorter n yard (honest .wide) [] k reached fits finished others over c);
+          };
       examples-tell = examples-tell n yard (honest .wide) [] k reached fits finished;
     }
 

@@ -1,24 +1,24 @@
 -- A run that asks until nothing is left is complete, and no complete list is shorter; no member follows from the others. Assumes nothing.
-use mathlib.Core.Path.{_≡_, refl, sym, ap, subst, _∙_}
+use mathlib.Core.Path.{_≡_, sym, subst, _∙_}
 use mathlib.Core.Bool.{true, false}
-use mathlib.Core.List.{List, [], _∷_, _++_}
-use mathlib.Core.Logic.{_⊎_, inl, inr}
+use mathlib.Core.List.{List, _∷_, _++_}
+use mathlib.Core.Logic.{inl, inr}
 use Prim.Native.Nat.{ℕ, _≤_}
 use lib.ListN.{length}
 use Rattle.std.specs.shelf.Lists.{All, Has}
-use Rattle.std.proofs.shelf.Elements.{all-has, all-has-itself, has-append-left, has-append-right}
+use Rattle.std.proofs.shelf.Elements.{all-has, all-has-itself, has-append-right}
 use Rattle.std.proofs.shelf.Tests.{both-ways, cases-bool}
 use Rattle.attributes.specs.Sets.{Set, subset, meet}
 use Rattle.attributes.proofs.Members.{all-from-has, has-here}
-use Rattle.attributes.proofs.Sets.{subset-refl, subset-trans, meet-left, meet-right, meet-greatest, length-meet}
+use Rattle.attributes.proofs.Sets.{subset-trans, meet-left, meet-right, meet-greatest, length-meet}
 use Rattle.contexts.specs.Contexts.{Context, Of-width, Implication, common, respects, holds}
 use Rattle.contexts.proofs.Holds.{respects-apply, respects-from, breaks}
-use Rattle.contexts.proofs.Common.{length-common, common-monotone, holds-by-common}
+use Rattle.contexts.proofs.Common.{common-monotone, holds-by-common}
 use Rattle.implications.specs.Implications.{Over, respects-all, all-hold, Follows, Complete}
-use Rattle.implications.proofs.Respects.{respects-has, has-respects, respects-fewer, respects-append, breaks-member, all-hold-has, has-all-hold, one-set-decides, meet-respects, meet-respects-one}
+use Rattle.implications.proofs.Respects.{has-respects, respects-fewer, respects-append, breaks-member, all-hold-has, has-all-hold, one-set-decides, meet-respects, meet-respects-one}
 use Rattle.exploration.specs.Promise.{Pairwise}
 use Rattle.exploration.proofs.Pairs.{pairwise-has, pairwise-around, pairwise-weaker, at-most}
-use Rattle.exploration.proofs.Question.{Asks, Shut, asks-concluded, asks-holds}
+use Rattle.exploration.proofs.Question.{Shut, asks-concluded, asks-holds}
 use Rattle.exploration.proofs.Run.{Run, Later, Independent, run-later, run-independent, breaks-itself}
 
 turned : (r q : Implication) → Independent r q → Independent q r
@@ -87,17 +87,18 @@ module _ (n : ℕ) (u : Context) (wide : Of-width n u) where
         where
           shared : Set
           shared = meet (r .premise) (p .premise)
+
           -- the shared attributes respect each member: those of two others by both premises, and r and p since neither premise is inside
           respected : subset (r .premise) (p .premise) ≡ false → subset (p .premise) (r .premise) ≡ false → respects-all shared (is ++ rs) ≡ true
           respected i j =
               respects-append shared is rs (meet-respects is (r .premise) (p .premise) (before r m) (before p k)) (has-respects shared rs (λ o l.
-                elim (pairwise-has Independent turned rs apart r o m l) [
-                  | inl e ↦ respects-from shared o (λ c. absurd (both-ways (subset (r .premise) (p .premise)) i (subset-trans (r .premise) shared (p .premise) (rw (sym e) at c) (meet-right (r .premise) (p .premise)))))
-                  | inr b ↦ elim (pairwise-has Independent turned rs apart p o k l) [
-                    | inl e ↦ respects-from shared o (λ c. absurd (both-ways (subset (p .premise) (r .premise)) j (subset-trans (p .premise) shared (r .premise) (rw (sym e) at c) (meet-left (r .premise) (p .premise)))))
-                    | inr d ↦ meet-respects-one (r .premise) (p .premise) o (b .1) (d .1)
-                  ]
-                ]))
+              elim (pairwise-has Independent turned rs apart r o m l) [
+                | inl e ↦ respects-from shared o (λ c. absurd (both-ways (subset (r .premise) (p .premise)) i (subset-trans (r .premise) shared (p .premise) (rw (sym e) at c) (meet-right (r .premise) (p .premise)))))
+                | inr b ↦ elim (pairwise-has Independent turned rs apart p o k l) [
+                  | inl e ↦ respects-from shared o (λ c. absurd (both-ways (subset (p .premise) (r .premise)) j (subset-trans (p .premise) shared (r .premise) (rw (sym e) at c) (meet-left (r .premise) (p .premise)))))
+                  | inr d ↦ meet-respects-one (r .premise) (p .premise) o (b .1) (d .1)
+                ]
+              ]))
 
       -- each member hits one of a complete list
       hits : (others : List Implication) → All (Over n) others → Complete n u (is ++ others) → (r : Implication) → Has rs r → (q : Implication) × Has others q × Hit r q

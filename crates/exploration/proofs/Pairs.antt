@@ -74,11 +74,11 @@ at-most {X} {Y} W (x ∷ xs) ys h p =
     let (y, m, w) = h .0 in
     let rest = without ys y m in
     let partner : (z : X) → Has xs z → (v : Y) × Has (rest .0) v × W z v = λ z k.
-        let g = all-has (λ z. (v : Y) × Has ys v × W z v) xs z (h .1) k in
-        elim (rest .2 (g .0) (g .1)) [
-          | inl e ↦ absurd (all-has (λ z. (v : Y) → W x v → W z v → ⊥) xs z (p .0) k y w (rw (← e) at (g .2)))
-          | inr r ↦ (g .0, r, g .2)
-        ] in
+    let g = all-has (λ z. (v : Y) × Has ys v × W z v) xs z (h .1) k in
+    elim (rest .2 (g .0) (g .1)) [
+      | inl e ↦ absurd (all-has (λ z. (v : Y) → W x v → W z v → ⊥) xs z (p .0) k y w (rw (← e) at (g .2)))
+      | inr r ↦ (g .0, r, g .2)
+    ] in
     let later = at-most W xs (rest .0) (all-from-has (λ z. (v : Y) × Has (rest .0) v × W z v) xs partner) (p .1) in
     omega (arith, later, rest .1)
 
@@ -87,9 +87,9 @@ pub at-most-sets : {X : Type 0} (n : ℕ) (f : X → Set) (xs : List X) → All 
 at-most-sets {X} n f xs w p =
     let laws = lectic-agrees n in
     let listed : (x : X) → length (f x) ≡ n → (s : Set) × Has (sets n) s × (f x ≡ s) = λ x e.
-        let at = laws .listed (f x) e in
-        (f x, rw (at .2) at (has-getD (sets n) (at .0) [] (omega (arith, at .1, laws .count))), refl) in
+    let at = laws .listed (f x) e in
+    (f x, rw (at .2) at (has-getD (sets n) (at .0) [] (omega (arith, at .1, laws .count))), refl) in
     let bound =
-      at-most (λ x s. f x ≡ s) xs (sets n) (all-weaker (λ x. length (f x) ≡ n) (λ x. (s : Set) × Has (sets n) s × (f x ≡ s)) listed xs w)
-      (pairwise-weaker (λ x y. f x ≢ f y) (λ x y. (s : Set) → f x ≡ s → f y ≡ s → ⊥) (λ x. length (f x) ≡ n) (λ x y _ _ ne s e g. ne (e ∙ sym g)) xs w p) in
+    at-most (λ x s. f x ≡ s) xs (sets n) (all-weaker (λ x. length (f x) ≡ n) (λ x. (s : Set) × Has (sets n) s × (f x ≡ s)) listed xs w)
+    (pairwise-weaker (λ x y. f x ≢ f y) (λ x y. (s : Set) → f x ≡ s → f y ≡ s → ⊥) (λ x. length (f x) ≡ n) (λ x y _ _ ne s e g. ne (e ∙ sym g)) xs w p) in
     omega (arith, bound, laws .count)

@@ -1,6 +1,6 @@
 -- What is asked, by its parts; and with what is true of a yard, what its examples ask the yard itself asks. Assumes nothing.
 use mathlib.Core.Path.{_≡_, refl, sym, ap, subst, _∙_}
-use mathlib.Core.Bool.{Bool, true, false}
+use mathlib.Core.Bool.{true, false}
 use mathlib.Core.List.{List}
 use Prim.Native.Nat.{ℕ}
 use lib.ListN.{length}
@@ -65,11 +65,11 @@ module _ (n : ℕ) (is : List Implication) (t : Context) where
   asked q a =
       let s : Set = q .premise in
       let f : Is-first n (is-open (common n t) is) s =
-        record {
-          wide = a .wide;
-          passes = open-from (common n t) is s (a .respected) (rw (a .concludes) at (a .opens));
-          earlier = λ r w p. shut-from (common n t) is r (a .earlier r w p);
-        } in
+      record {
+        wide = a .wide;
+        passes = open-from (common n t) is s (a .respected) (rw (a .concludes) at (a .opens));
+        earlier = λ r w p. shut-from (common n t) is r (a .earlier r w p);
+      } in
       ap (mapped about) (first-laws n (is-open (common n t) is) .only s f) ∙ ap {B = Option Implication} Some (λ j. record { premise = s; conclusion = sym (a .concludes) j })
 
   pub none-asked : question n (known is t) ≡ None → Shut n is t
@@ -107,8 +107,8 @@ module _ (n : ℕ) (t u : Context) (wide : Of-width n u) (stand : (o : Set) → 
       let s : Set = q .premise in
       let concluded = asks-concluded n t narrow is q a in
       let concludes : q .conclusion ≡ common n u s =
-        subset-antisym (q .conclusion) (common n u s) (concluded ∙ sym (length-common n u s wide))
-        (sym (holds-by-common n u q concluded) ∙ h) (rw (a .concludes) (common-fewer n t u s wide stand)) in
+      subset-antisym (q .conclusion) (common n u s) (concluded ∙ sym (length-common n u s wide))
+      (sym (holds-by-common n u q concluded) ∙ h) (rw (a .concludes) (common-fewer n t u s wide stand)) in
       record {
         wide = a .wide;
         concludes = concludes;

@@ -1,8 +1,8 @@
 -- What every dialogue keeps, whatever is answered: its confirmed implications are a run of its examples, and no example is named twice. Assumes nothing.
 use mathlib.Core.Path.{_≡_, refl, sym, ap, subst, _∙_}
-use mathlib.Core.Bool.{Bool, true, false, _&&_, not, cond}
-use mathlib.Core.List.{List, [], _∷_, _++_, append-assoc}
-use mathlib.Core.Logic.{_⊎_, inl, inr, _≢_}
+use mathlib.Core.Bool.{true, false, _&&_, not, cond}
+use mathlib.Core.List.{List, [], _∷_, _++_, append-assoc, append-nil}
+use mathlib.Core.Logic.{inl, inr, _≢_}
 use Prim.Native.Nat.{ℕ}
 use lib.Dec.{eqb}
 use lib.ListN.{length}
@@ -13,7 +13,7 @@ use Rattle.std.proofs.shelf.Elements.{all-push, has-append-left, has-append-rig
 use Rattle.std.proofs.shelf.Tests.{and-parts, both-ways, cond-both, eqb-true, not-true}
 use Rattle.attributes.specs.Sets.{Set, subset}
 use Rattle.attributes.proofs.Members.{all-from-has}
-use Rattle.contexts.specs.Contexts.{Context, Of-width, Implication, common, respects, holds}
+use Rattle.contexts.specs.Contexts.{Context, Of-width, Implication, respects}
 use Rattle.contexts.proofs.Common.{common-inside}
 use Rattle.contexts.proofs.Holds.{breaks}
 use Rattle.implications.specs.Implications.{respects-all, all-hold}
@@ -58,7 +58,7 @@ module _ (n : ℕ) (is : List Implication) (k : Knowledge) (reached : Reached n 
   reached-object s w e r =
       let more : Context = k .examples ++ s ∷ [] in
       let hold : all-hold more (k .confirmed) ≡ true =
-        objects-hold more (k .confirmed) (λ o m. elim (has-push-cases (k .examples) s o m) [ inl h ↦ object-respects (k .examples) (k .confirmed) (reached .hold) o h | inr f ↦ rw f at r ]) in
+      objects-hold more (k .confirmed) (λ o m. elim (has-push-cases (k .examples) s o m) [ inl h ↦ object-respects (k .examples) (k .confirmed) (reached .hold) o h | inr f ↦ rw f at r ]) in
       let wide : Of-width n more = all-push (λ (o : Set). length o ≡ n) (k .examples) s (reached .wide) w in
       record {
         wide = wide;
@@ -67,8 +67,8 @@ module _ (n : ℕ) (is : List Implication) (k : Knowledge) (reached : Reached n 
         rules = reached .rules;
         confirmed = reached .confirmed;
         run =
-          run-grows n (k .examples) more wide (λ o m. has-append-left (k .examples) (s ∷ []) o m) is (reached .rules)
-          (λ i m. all-hold-has more (k .confirmed) hold i (subst (λ (l : List Implication). Has l i) (sym (reached .confirmed)) (has-append-right is (reached .rules) i m))) (reached .run);
+            run-grows n (k .examples) more wide (λ o m. has-append-left (k .examples) (s ∷ []) o m) is (reached .rules)
+            (λ i m. all-hold-has more (k .confirmed) hold i (subst (λ (l : List Implication). Has l i) (sym (reached .confirmed)) (has-append-right is (reached .rules) i m))) (reached .run);
       }
 
 pub reached-after : (n : ℕ) (is : List Implication) (k : Knowledge) → Reached n is k → (answer : Answer) → Reached n is (after n k answer)
@@ -81,9 +81,9 @@ reached-after n is k reached answer = go (question n k) refl answer
     go (Some q) e (object s) =
         cond-both (taken n k (Some q) (object s)) (with-answer k (Some q) (object s)) k (Reached n is)
         (λ t.
-          let parts = and-parts (eqb (length s) n) (not (respects s q) && respects-all s (k .confirmed)) t in
-          let breaks-it = and-parts (not (respects s q)) (respects-all s (k .confirmed)) (parts .1) in
-          reached-object n is k reached q e s (eqb-true (length s) n (parts .0)) (not-true (respects s q) (breaks-it .0)) (breaks-it .1))
+        let parts = and-parts (eqb (length s) n) (not (respects s q) && respects-all s (k .confirmed)) t in
+        let breaks-it = and-parts (not (respects s q)) (respects-all s (k .confirmed)) (parts .1) in
+        reached-object n is k reached q e s (eqb-true (length s) n (parts .0)) (not-true (respects s q) (breaks-it .0)) (breaks-it .1))
         (λ _. reached)
 
 pub reached-all : (n : ℕ) (is : List Implication) (k : Knowledge) → Reached n is k → (answers : List Answer) → Reached n is (after-all n k answers)
@@ -91,6 +91,10 @@ unfolding after-all
 reached-all n is k reached [] = reached
 reached-all n is k reached (answer ∷ answers) = reached-all n is (after n k answer) (reached-after n is k reached answer) answers
 
+-- a dialogue may start from any implications and examples that fit each other
+pub reached-start : (n : ℕ) (k : Knowledge) → Of-width n (k .examples) → Pairwise _≢_ (k .examples) → all-hold (k .examples) (k .confirmed) ≡ true → Reached n (k .confirmed) k
+reached-start n k wide once hold = record { wide = wide; once = once; hold = hold; rules = []; confirmed = sym (append-nil (k .confirmed)); run = tt }
+
 pub reached-learnt : (n : ℕ) (answers : List Answer) → Reached n [] (learnt n answers)
 unfolding all-hold
-reached-learnt n answers = reached-all n [] nothing-known (record { wide = tt; once = tt; hold = refl; rules = []; confirmed = refl; run = tt }) answers
+reached-learnt n answers = reached-all n [] nothing-known (reached-start n nothing-known tt tt refl) answers

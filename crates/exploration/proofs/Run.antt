@@ -1,11 +1,10 @@
 -- What a yard asks if each question is confirmed: the implications in turn, independent of each other, and determined by the yard. Assumes nothing.
 use mathlib.Core.Path.{_≡_, refl, sym, ap, subst, _∙_}
-use mathlib.Core.Bool.{true, false}
+use mathlib.Core.Bool.{true}
 use mathlib.Core.List.{List, [], _∷_, _++_, append-nil, append-assoc}
-use mathlib.Core.Logic.{_⊎_, inl, inr, _≢_}
+use mathlib.Core.Logic.{inl, inr, _≢_}
 use Prim.Native.Nat.{ℕ, _^_, _≤_}
 use lib.ListN.{length}
-use Rattle.std.specs.declared.option.Option.the-variants.{Some, None}
 use Rattle.std.specs.shelf.Lists.{All, Has}
 use Rattle.std.proofs.shelf.Elements.{all-weaker, has-append-left, has-push}
 use Rattle.std.proofs.shelf.Tests.{both-ways}
@@ -18,10 +17,9 @@ use Rattle.contexts.proofs.Holds.{respects-apply, respects-from}
 use Rattle.implications.specs.Implications.{respects-all}
 use Rattle.implications.proofs.Respects.{respects-has, respects-fewer}
 use Rattle.premises.proofs.First.{no-some}
-use Rattle.exploration.specs.Dialogue.{question}
 use Rattle.exploration.specs.Promise.{Pairwise}
 use Rattle.exploration.proofs.Pairs.{pairwise-weaker, at-most-sets}
-use Rattle.exploration.proofs.Question.{Asks, Shut, known, asked, shut-asks-none, same-question}
+use Rattle.exploration.proofs.Question.{Asks, Shut, asked, shut-asks-none, same-question}
 
 -- each member of rs in turn is what the yard u asks with the implications is and the members before it
 abbrev pub Run : ℕ → Context → List Implication → List Implication → Type 0
@@ -52,12 +50,13 @@ module _ (n : ℕ) (u : Context) where
   independent is r q a l =
       let (more, add, b) = l in
       let after : respects (q .premise) r ≡ true = respects-has (q .premise) more (b .respected) r (add r (has-push is r)) in
-      let before : respects-all (q .premise) is ≡ true = respects-fewer (q .premise) is more (λ i m. add i (has-append-left is (r ∷ []) i m)) (b .respected) in
-      (after,
+      let before : respects-all (q .premise) is ≡ true = respects-fewer (q .premise) is more (λ i m. add i (has-append-left is (r ∷ []) i m)) (b .respected) in (
+        after,
         respects-from (r .premise) q (λ h. elim (subset-first (q .premise) (r .premise) (b .wide ∙ sym (a .wide)) h) [
           | inl e ↦ absurd (breaks-itself is r a (rw e at after))
           | inr p ↦ absurd (both-ways (subset (common n u (q .premise)) (q .premise)) (rw (b .concludes) at (b .opens)) (a .earlier (q .premise) (b .wide) p before))
-        ]))
+        ]),
+      )
 
   pub run-independent : (is rs : List Implication) → Run n u is rs → Pairwise Independent rs
   run-independent is [] run = tt
@@ -72,7 +71,7 @@ module _ (n : ℕ) (u : Context) where
       let later = run-later is rs run in
       at-most-sets n (λ (r : Implication). r .premise) rs (all-weaker (Later n u is) (λ (r : Implication). length (r .premise) ≡ n) (λ r l. l .2 .wide) rs later)
       (pairwise-weaker Independent (λ (r q : Implication). r .premise ≢ q .premise) (Later n u is)
-        (λ r q l _ both e. breaks-itself (l .0) r (l .2) (rw (sym e) at (both .0))) rs later (run-independent is rs run))
+      (λ r q l _ both e. breaks-itself (l .0) r (l .2) (rw (sym e) at (both .0))) rs later (run-independent is rs run))
 
   -- two runs that ask until nothing is left are one
   pub same-run : (is rs qs : List Implication) → Run n u is rs → Run n u is qs → Shut n (is ++ rs) u → Shut n (is ++ qs) u → rs ≡ qs
@@ -83,8 +82,8 @@ module _ (n : ℕ) (u : Context) where
       let same : r ≡ q = cc (asked n is u r (p .0), asked n is u q (m .0)) in
       let split : (qs : List Implication) → is ++ r ∷ qs ≡ (is ++ r ∷ []) ++ qs = λ qs. sym (append-assoc is (r ∷ []) qs) in
       let rest : rs ≡ qs =
-        same-run (is ++ r ∷ []) rs qs (p .1) (rw (sym same) at (m .1)) (subst (λ (l : List Implication). Shut n l u) (split rs) h)
-        (subst (λ (l : List Implication). Shut n l u) (ap (λ (i : Implication). is ++ i ∷ qs) (sym same) ∙ split qs) k) in
+      same-run (is ++ r ∷ []) rs qs (p .1) (rw (sym same) at (m .1)) (subst (λ (l : List Implication). Shut n l u) (split rs) h)
+      (subst (λ (l : List Implication). Shut n l u) (ap (λ (i : Implication). is ++ i ∷ qs) (sym same) ∙ split qs) k) in
       cc
 
   pub run-push : (is rs : List Implication) (q : Implication) → Run n u is rs → Asks n (is ++ rs) u q → Run n u is (rs ++ q ∷ [])

@@ -1,23 +1,20 @@
 -- What is asked is settled neither way by what was answered, and the questions never go back. Assumes nothing.
-use mathlib.Core.Path.{_≡_, refl, sym, subst, _∙_}
-use mathlib.Core.Bool.{true, false}
-use mathlib.Core.List.{List, [], _∷_}
-use mathlib.Core.Logic.{_⊎_, inl, inr}
-use Prim.Native.Nat.{ℕ}
-use Rattle.std.specs.declared.option.Option.the-variants.{Some}
-use Rattle.std.specs.shelf.Lists.{Has}
+use mathlib.Core.Path.{_≡_, subst}
+use mathlib.Core.Bool.{true}
+use mathlib.Core.List.{[], _∷_}
+use mathlib.Core.Logic.{inl, inr}
 use Rattle.std.proofs.shelf.Tests.{both-ways, cases-bool}
 use Rattle.attributes.specs.Sets.{Set}
 use Rattle.attributes.specs.Lectic.{precedes}
 use Rattle.attributes.proofs.Members.{has-here, has-there, has-cases}
-use Rattle.contexts.specs.Contexts.{Context, Implication, common, holds}
+use Rattle.contexts.specs.Contexts.{Context, common, holds}
 use Rattle.contexts.proofs.Holds.{holds-has}
 use Rattle.implications.specs.Implications.{respects-all}
 use Rattle.implications.proofs.Respects.{object-respects, objects-hold}
 use Rattle.premises.specs.Open.{is-open}
 use Rattle.premises.proofs.Open.{open-from}
-use Rattle.exploration.specs.Dialogue.{Knowledge, nothing-known, question, Answer, after, Truthful}
-use Rattle.exploration.specs.Promise.{learnt, Honest, Unsettled, Nothing-settled-is-asked, Never-goes-back}
+use Rattle.exploration.specs.Dialogue.{Knowledge, nothing-known, after, Truthful}
+use Rattle.exploration.specs.Promise.{learnt, Nothing-settled-is-asked, Never-goes-back}
 use Rattle.exploration.proofs.Finish.{nothing-fits}
 use Rattle.exploration.proofs.Question.{Asks, asks, asks-holds, passed}
 use Rattle.exploration.proofs.Reached.{Reached, reached-after, reached-learnt}
@@ -40,15 +37,20 @@ nothing-settled-is-asked n yard answers honest q e =
   where
     k : Knowledge
     k = learnt n answers
+
     reached : Reached n [] k
     reached = reached-learnt n answers
+
     a : Asks n (k .confirmed) (k .examples) q
     a = asks n (k .confirmed) (k .examples) q e
+
     again : (t : Context) → Fits t k → Truthful n t nothing-known answers
     again = retold n yard (honest .wide) nothing-known (nothing-fits yard) answers (honest .truthful)
+
     -- the examples alone
     examples-fit : Fits (k .examples) k
     examples-fit = record { hold = reached .hold; stand = λ s m. m }
+
     -- the examples and an object with the attributes of the premise
     premise-fits : Fits (q .premise ∷ k .examples) k
     premise-fits =
@@ -69,11 +71,15 @@ never-goes-back n answers answer q r e f =
   where
     k : Knowledge
     k = learnt n answers
+
     l : Knowledge
     l = after n k answer
+
     reached : Reached n [] l
     reached = reached-after n [] k (reached-learnt n answers) answer
+
     grows : Grows k l
     grows = grows-after n k answer
+
     b : Asks n (l .confirmed) (l .examples) r
     b = asks n (l .confirmed) (l .examples) r f

@@ -2,7 +2,7 @@
 use mathlib.Core.Path.{_≡_, refl, sym, ap, _∙_}
 use mathlib.Core.Bool.{Bool, true, false, cond}
 use mathlib.Core.List.{List, [], _∷_, _++_, map}
-use mathlib.Core.Logic.{_⊎_, inl, inr}
+use mathlib.Core.Logic.{inl, inr}
 use Prim.Native.Nat.{ℕ, zero, suc, _^_, _<_}
 use native.Mathlib.Omega.{arith}
 use lib.Dec.{ltb}
@@ -118,6 +118,7 @@ module _ (n : ℕ) (test : Set → Bool) where
       go : (s : Set) → Is-first n test s → (o : Option Set) → first test (sets n) ≡ o → o ≡ Some s
       go s f None e = absurd (both-ways (test s) (none-passes e s (f .wide)) (f .passes))
       go s f (Some t) e = ap Some (same-first t s (is-first t e) f)
+
       fails : ((s : Set) → length s ≡ n → test s ≡ false) → (o : Option Set) → first test (sets n) ≡ o → o ≡ None
       fails h None e = refl
       fails h (Some t) e = let f = is-first t e in absurd (both-ways (test t) (h t (f .wide)) (f .passes))
