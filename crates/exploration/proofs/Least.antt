@@ -14,8 +14,8 @@ use Rattle.attributes.proofs.Sets.{subset-trans, meet-left, meet-right, meet-gr
 use Rattle.contexts.specs.Contexts.{Context, Of-width, Implication, common, respects, holds}
 use Rattle.contexts.proofs.Holds.{respects-apply, respects-from, breaks}
 use Rattle.contexts.proofs.Common.{common-monotone, holds-by-common}
-use Rattle.implications.specs.Implications.{Over, respects-all, all-hold, Follows, Complete}
-use Rattle.implications.proofs.Respects.{has-respects, respects-fewer, respects-append, breaks-member, all-hold-has, has-all-hold, one-set-decides, meet-respects, meet-respects-one}
+use Rattle.implications.specs.Implications.{Over, respects-all, Follows, Complete}
+use Rattle.implications.proofs.Respects.{has-respects, respects-fewer, respects-append, breaks-member, all-hold-has, one-set-decides, meet-respects, meet-respects-one}
 use Rattle.exploration.specs.Promise.{Pairwise}
 use Rattle.exploration.proofs.Pairs.{pairwise-has, pairwise-around, pairwise-weaker, at-most}
 use Rattle.exploration.proofs.Question.{Shut, asks-concluded, asks-holds}
@@ -40,9 +40,6 @@ module _ (n : ℕ) (u : Context) (wide : Of-width n u) where
 
     before : (r : Implication) → Has rs r → respects-all (r .premise) is ≡ true
     before r m = let l = later r m in respects-fewer (r .premise) is (l .0) (l .1) (l .2 .respected)
-
-    pub run-holds : all-hold u rs ≡ true
-    run-holds = has-all-hold u rs (λ r m. let l = later r m in asks-holds n u wide (l .0) r (l .2))
 
     apart : Pairwise Independent rs
     apart = run-independent n u is rs run

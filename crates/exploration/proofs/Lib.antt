@@ -1,11 +1,12 @@
-mod Bounds
-mod Finish
-mod Opening
+pub mod Bounds
+mod Ending
+pub mod Finish
 pub mod Least
+mod Opening
 pub mod Pairs
 pub mod Question
 pub mod Reached
 pub mod Run
-mod Settled
+pub mod Settled
 pub mod Truth
 mod Worked

@@ -52,7 +52,7 @@ more o os q false e r h = (has-here o os, e)
 more o os q true e None h = and-from (respects o q) (holds os q) e h
 more o os q true e (Some s) h = (has-there o os s (h .0), h .1)
 
-first-true : (t : Context) (q : Implication) → True-answer t (Some q) (first-named (first (λ (s : Set). not (respects s q)) t))
+pub first-true : (t : Context) (q : Implication) → True-answer t (Some q) (first-named (first (λ (s : Set). not (respects s q)) t))
 unfolding holds first
 first-true [] q = refl
 first-true (o ∷ os) q = more o os q (respects o q) refl (first (λ (s : Set). not (respects s q)) os) (first-true os q)

@@ -72,9 +72,15 @@ pub record Few (n : ℕ) (k : Knowledge) : Type 0 where
 abbrev pub Few-of-each : Type 0
 Few-of-each = (n : ℕ) (answers : List Answer) → Few n (learnt n answers)
 
--- a truthful dialogue ends
+-- a truthful dialogue has at most twice 2 ^ n answers
 abbrev pub Answers-bounded : Type 0
 Answers-bounded = (n : ℕ) (yard : Context) (answers : List Answer) → Honest n yard answers → length answers ≤ 2 * 2 ^ n
+
+-- every truthful dialogue can be led on, truthfully, until nothing is asked
+abbrev pub Can-be-finished : Type 0
+Can-be-finished =
+    (n : ℕ) (yard : Context) (answers : List Answer) → Honest n yard answers
+    → (more : List Answer) × Honest n yard (answers ++ more) × (question n (learnt n (answers ++ more)) ≡ None)
 
 -- fewer than 4096 implications before another is confirmed, and fewer than 4096 examples before another is named
 abbrev pub Room : Knowledge → Answer → Type 0

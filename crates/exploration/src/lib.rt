@@ -15,6 +15,7 @@ pub use reply::Reply;
 pub use reply::ReplyDisplay;
 pub use theorems::always_room;
 pub use theorems::answers_bounded;
+pub use theorems::can_be_finished;
 pub use theorems::few_of_each;
 pub use theorems::main_promise;
 pub use theorems::never_goes_back;

@@ -1,5 +1,5 @@
 // What an exploration promises. Each promise is the contract of a function that does nothing else.
-ghost use Rattle.exploration.specs.Promise.{Main-promise, Same-implications, Truth-is-taken, Nothing-settled-is-asked, Never-goes-back, Few-of-each, Answers-bounded, Always-room, None-is-spare};
+ghost use Rattle.exploration.specs.Promise.{Main-promise, Same-implications, Truth-is-taken, Nothing-settled-is-asked, Never-goes-back, Few-of-each, Answers-bounded, Can-be-finished, Always-room, None-is-spare};
 
 // Once nothing is asked, what is confirmed is least for the yard, and the examples tell what holds there.
 pub fn main_promise() -> u8
@@ -46,6 +46,13 @@ pub fn few_of_each() -> u8
 // A truthful dialogue has at most 2 * 2^n answers.
 pub fn answers_bounded() -> u8
     ensures { λ _. ⌜ Answers-bounded ⌝ }
+{
+    0
+}
+
+// Every truthful dialogue can be led to its end.
+pub fn can_be_finished() -> u8
+    ensures { λ _. ⌜ Can-be-finished ⌝ }
 {
     0
 }
