@@ -11,6 +11,7 @@ use Rattle.std.specs.declared.option.Option.the-variants.{Some, None}
 use Rattle.std.proofs.shelf.Lists.{length-push}
 use Rattle.std.proofs.shelf.Tests.{both-ways, cond-true}
 use Rattle.attributes.specs.Sets.{Set}
+use Rattle.contexts.specs.Contexts.{Implication}
 use Rattle.exploration.specs.Dialogue.{Knowledge, nothing-known, question, Answer, always, object, taken, with-answer, after}
 use Rattle.exploration.specs.Promise.{learnt, Few, Few-of-each, Answers-bounded, Room, Always-room, None-is-spare}
 use Rattle.exploration.proofs.Finish.{nothing-fits}
@@ -38,7 +39,7 @@ answers-bounded n yard answers honest =
     omega (arith, bound .implications, bound .examples, count)
 
 -- an answer that is taken leaves no more than 2 ^ n of each kind
-room : (n : ℕ) (k : Knowledge) (o : Option _) (a : Answer) → 2 ^ n ≤ 4096 → taken n k o a ≡ true → Few n (with-answer k o a) → Room k a
+room : (n : ℕ) (k : Knowledge) (o : Option Implication) (a : Answer) → 2 ^ n ≤ 4096 → taken n k o a ≡ true → Few n (with-answer k o a) → Room k a
 room n k None a small t f = absurd (both-ways _ refl t)
 room n k (Some q) always small t f = omega (arith, length-push (k .confirmed) q, f .implications)
 room n k (Some q) (object s) small t f = omega (arith, length-push (k .examples) s, f .examples)

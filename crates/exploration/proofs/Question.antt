@@ -63,14 +63,16 @@ module _ (n : ℕ) (is : List Implication) (t : Context) where
   pub asked : (q : Implication) → Asks n is t q → question n (known is t) ≡ Some q
   unfolding question first-open
   asked q a =
-      let s : Set = q .premise in
-      let f : Is-first n (is-open (common n t) is) s =
-      record {
-        wide = a .wide;
-        passes = open-from (common n t) is s (a .respected) (rw (a .concludes) at (a .opens));
-        earlier = λ r w p. shut-from (common n t) is r (a .earlier r w p);
-      } in
-      ap (mapped about) (first-laws n (is-open (common n t) is) .only s f) ∙ ap {B = Option Implication} Some (λ j. record { premise = s; conclusion = sym (a .concludes) j })
+      ap (mapped about) (first-laws n (is-open (common n t) is) .only (q .premise) found)
+      ∙ ap {B = Option Implication} Some (λ j. record { premise = q .premise; conclusion = sym (a .concludes) j })
+    where
+      found : Is-first n (is-open (common n t) is) (q .premise)
+      found =
+          record {
+            wide = a .wide;
+            passes = open-from (common n t) is (q .premise) (a .respected) (rw (a .concludes) at (a .opens));
+            earlier = λ r w p. shut-from (common n t) is r (a .earlier r w p);
+          }
 
   pub none-asked : question n (known is t) ≡ None → Shut n is t
   unfolding question first-open
@@ -104,18 +106,18 @@ module _ (n : ℕ) (t u : Context) (wide : Of-width n u) (stand : (o : Set) → 
   -- a question that is true of the yard is what the yard asks
   pub same-question : (is : List Implication) (q : Implication) → Asks n is t q → holds u q ≡ true → Asks n is u q
   same-question is q a h =
-      let s : Set = q .premise in
-      let concluded = asks-concluded n t narrow is q a in
-      let concludes : q .conclusion ≡ common n u s =
-      subset-antisym (q .conclusion) (common n u s) (concluded ∙ sym (length-common n u s wide))
-      (sym (holds-by-common n u q concluded) ∙ h) (rw (a .concludes) (common-fewer n t u s wide stand)) in
       record {
         wide = a .wide;
-        concludes = concludes;
+        concludes =
+            subset-antisym (q .conclusion) (common n u (q .premise)) (concluded ∙ sym (length-common n u (q .premise) wide))
+            (sym (holds-by-common n u q concluded) ∙ h) (rw (a .concludes) (common-fewer n t u (q .premise) wide stand));
         respected = a .respected;
         opens = a .opens;
         earlier = λ s w p r. stays-closed s (a .earlier s w p r);
       }
+    where
+      concluded : length (q .conclusion) ≡ n
+      concluded = asks-concluded n t narrow is q a
 
   pub same-end : (is : List Implication) → Shut n is t → Shut n is u
   same-end is h s w r = stays-closed s (h s w r)

@@ -13,7 +13,7 @@ use Rattle.std.proofs.shelf.Elements.{all-push, has-append-left, has-append-rig
 use Rattle.std.proofs.shelf.Tests.{and-parts, both-ways, cond-both, eqb-true, not-true}
 use Rattle.attributes.specs.Sets.{Set, subset}
 use Rattle.attributes.proofs.Members.{all-from-has}
-use Rattle.contexts.specs.Contexts.{Context, Of-width, Implication, respects}
+use Rattle.contexts.specs.Contexts.{Context, Of-width, Implication, respects, holds}
 use Rattle.contexts.proofs.Common.{common-inside}
 use Rattle.contexts.proofs.Holds.{breaks}
 use Rattle.implications.specs.Implications.{respects-all, all-hold}
@@ -34,57 +34,63 @@ pub record Reached (n : ℕ) (is : List Implication) (k : Knowledge) : Type 0 wh
   pub run : Run n (k .examples) is rules
 
 module _ (n : ℕ) (is : List Implication) (k : Knowledge) (reached : Reached n is k) (q : Implication) (asked : question n k ≡ Some q) where
-  a : Asks n (k .confirmed) (k .examples) q
-  a = asks n (k .confirmed) (k .examples) q asked
+  facts : Asks n (k .confirmed) (k .examples) q
+  facts = asks n (k .confirmed) (k .examples) q asked
 
   pub reached-always : Reached n is (with-answer k (Some q) always)
   reached-always =
       record {
         wide = reached .wide;
         once = reached .once;
-        hold = all-hold-push (k .examples) (k .confirmed) q (reached .hold) (asks-holds n (k .examples) (reached .wide) (k .confirmed) q a);
+        hold = all-hold-push (k .examples) (k .confirmed) q (reached .hold) (asks-holds n (k .examples) (reached .wide) (k .confirmed) q facts);
         rules = reached .rules ++ q ∷ [];
         confirmed = ap (λ (l : List Implication). l ++ q ∷ []) (reached .confirmed) ∙ append-assoc is (reached .rules) (q ∷ []);
-        run = run-push n (k .examples) is (reached .rules) q (reached .run) (subst (λ (l : List Implication). Asks n l (k .examples) q) (reached .confirmed) a);
+        run = run-push n (k .examples) is (reached .rules) q (reached .run) (subst (λ (l : List Implication). Asks n l (k .examples) q) (reached .confirmed) facts);
       }
 
   -- an object that breaks what is asked was not named before
   new : (s : Set) → respects s q ≡ false → Has (k .examples) s → ⊥
   new s e m =
       let parts = breaks s q e in
-      both-ways (subset (q .conclusion) s) (parts .1) (rw (a .concludes) (common-inside n (k .examples) (q .premise) s m (parts .0)))
+      both-ways (subset (q .conclusion) s) (parts .1) (rw (facts .concludes) (common-inside n (k .examples) (q .premise) s m (parts .0)))
 
   pub reached-object : (s : Set) → length s ≡ n → respects s q ≡ false → respects-all s (k .confirmed) ≡ true → Reached n is (with-answer k (Some q) (object s))
   reached-object s w e r =
-      let more : Context = k .examples ++ s ∷ [] in
-      let hold : all-hold more (k .confirmed) ≡ true =
-      objects-hold more (k .confirmed) (λ o m. elim (has-push-cases (k .examples) s o m) [ inl h ↦ object-respects (k .examples) (k .confirmed) (reached .hold) o h | inr f ↦ rw f at r ]) in
-      let wide : Of-width n more = all-push (λ (o : Set). length o ≡ n) (k .examples) s (reached .wide) w in
       record {
         wide = wide;
         once = pairwise-push _≢_ (k .examples) s (reached .once) (all-from-has (λ (o : Set). o ≢ s) (k .examples) (λ o m f. new s e (rw f at m)));
         hold = hold;
         rules = reached .rules;
         confirmed = reached .confirmed;
-        run =
-            run-grows n (k .examples) more wide (λ o m. has-append-left (k .examples) (s ∷ []) o m) is (reached .rules)
-            (λ i m. all-hold-has more (k .confirmed) hold i (subst (λ (l : List Implication). Has l i) (sym (reached .confirmed)) (has-append-right is (reached .rules) i m))) (reached .run);
+        run = run-grows n (k .examples) more wide (λ o m. has-append-left (k .examples) (s ∷ []) o m) is (reached .rules) still (reached .run);
       }
+    where
+      more : Context
+      more = k .examples ++ s ∷ []
+
+      wide : Of-width n more
+      wide = all-push (λ (o : Set). length o ≡ n) (k .examples) s (reached .wide) w
+
+      hold : all-hold more (k .confirmed) ≡ true
+      hold = objects-hold more (k .confirmed) (λ o m. elim (has-push-cases (k .examples) s o m) [ inl h ↦ object-respects (k .examples) (k .confirmed) (reached .hold) o h | inr f ↦ rw f at r ])
+
+      still : (i : Implication) → Has (reached .rules) i → holds more i ≡ true
+      still i m = all-hold-has more (k .confirmed) hold i (subst (λ (l : List Implication). Has l i) (sym (reached .confirmed)) (has-append-right is (reached .rules) i m))
 
 pub reached-after : (n : ℕ) (is : List Implication) (k : Knowledge) → Reached n is k → (answer : Answer) → Reached n is (after n k answer)
 unfolding after
 reached-after n is k reached answer = go (question n k) refl answer
   where
+    named : (q : Implication) → question n k ≡ Some q → (s : Set) → taken n k (Some q) (object s) ≡ true → Reached n is (with-answer k (Some q) (object s))
+    named q e s t =
+        let parts = and-parts (eqb (length s) n) (not (respects s q) && respects-all s (k .confirmed)) t in
+        let more = and-parts (not (respects s q)) (respects-all s (k .confirmed)) (parts .1) in
+        reached-object n is k reached q e s (eqb-true (length s) n (parts .0)) (not-true (respects s q) (more .0)) (more .1)
+
     go : (o : Option Implication) → question n k ≡ o → (answer : Answer) → Reached n is (cond (taken n k o answer) (with-answer k o answer) k)
     go None e answer = reached
     go (Some q) e always = reached-always n is k reached q e
-    go (Some q) e (object s) =
-        cond-both (taken n k (Some q) (object s)) (with-answer k (Some q) (object s)) k (Reached n is)
-        (λ t.
-        let parts = and-parts (eqb (length s) n) (not (respects s q) && respects-all s (k .confirmed)) t in
-        let breaks-it = and-parts (not (respects s q)) (respects-all s (k .confirmed)) (parts .1) in
-        reached-object n is k reached q e s (eqb-true (length s) n (parts .0)) (not-true (respects s q) (breaks-it .0)) (breaks-it .1))
-        (λ _. reached)
+    go (Some q) e (object s) = cond-both (taken n k (Some q) (object s)) (with-answer k (Some q) (object s)) k (Reached n is) (named q e s) (λ _. reached)
 
 pub reached-all : (n : ℕ) (is : List Implication) (k : Knowledge) → Reached n is k → (answers : List Answer) → Reached n is (after-all n k answers)
 unfolding after-all

@@ -80,11 +80,9 @@ module _ (n : ℕ) (u : Context) where
   same-run is (r ∷ rs) [] p _ _ k = absurd (no-some (sym (shut-asks-none n is u (rw append-nil at k)) ∙ asked n is u r (p .0)))
   same-run is (r ∷ rs) (q ∷ qs) p m h k =
       let same : r ≡ q = cc (asked n is u r (p .0), asked n is u q (m .0)) in
-      let split : (qs : List Implication) → is ++ r ∷ qs ≡ (is ++ r ∷ []) ++ qs = λ qs. sym (append-assoc is (r ∷ []) qs) in
-      let rest : rs ≡ qs =
-      same-run (is ++ r ∷ []) rs qs (p .1) (rw (sym same) at (m .1)) (subst (λ (l : List Implication). Shut n l u) (split rs) h)
-      (subst (λ (l : List Implication). Shut n l u) (ap (λ (i : Implication). is ++ i ∷ qs) (sym same) ∙ split qs) k) in
-      cc
+      let first-shut = subst (λ (l : List Implication). Shut n l u) (sym (append-assoc is (r ∷ []) rs)) h in
+      let other-shut = subst (λ (l : List Implication). Shut n l u) (ap (λ (i : Implication). is ++ i ∷ qs) (sym same) ∙ sym (append-assoc is (r ∷ []) qs)) k in
+      cc (same, same-run (is ++ r ∷ []) rs qs (p .1) (rw (sym same) at (m .1)) first-shut other-shut)
 
   pub run-push : (is rs : List Implication) (q : Implication) → Run n u is rs → Asks n (is ++ rs) u q → Run n u is (rs ++ q ∷ [])
   run-push is [] q run a = (rw append-nil at a, tt)

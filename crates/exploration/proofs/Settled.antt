@@ -1,6 +1,6 @@
 -- What is asked is settled neither way by what was answered, and the questions never go back. Assumes nothing.
 use mathlib.Core.Path.{_≡_, subst}
-use mathlib.Core.Bool.{true}
+use mathlib.Core.Bool.{true, false}
 use mathlib.Core.List.{[], _∷_}
 use mathlib.Core.Logic.{inl, inr}
 use Rattle.std.proofs.shelf.Tests.{both-ways, cases-bool}
@@ -65,7 +65,7 @@ nothing-settled-is-asked n yard answers honest q e =
 pub never-goes-back : Never-goes-back
 never-goes-back n answers answer q r e f =
     elim (cases-bool (precedes (r .premise) (q .premise))) [
-      | inl p ↦ absurd (both-ways (is-open (common n (l .examples)) (l .confirmed) (r .premise)) (passed n (k .examples) (l .examples) (reached .wide) (grows .examples) (k .confirmed) (l .confirmed) (grows .confirmed) q (asks n (k .confirmed) (k .examples) q e) (r .premise) (b .wide) p) (open-from (common n (l .examples)) (l .confirmed) (r .premise) (b .respected) (rw (b .concludes) at (b .opens))))
+      | inl p ↦ absurd (both-ways (is-open (common n (l .examples)) (l .confirmed) (r .premise)) (shut-before p) opens)
       | inr p ↦ p
     ]
   where
@@ -83,3 +83,10 @@ never-goes-back n answers answer q r e f =
 
     b : Asks n (l .confirmed) (l .examples) r
     b = asks n (l .confirmed) (l .examples) r f
+
+    shut-before : precedes (r .premise) (q .premise) ≡ true → is-open (common n (l .examples)) (l .confirmed) (r .premise) ≡ false
+    shut-before =
+        passed n (k .examples) (l .examples) (reached .wide) (grows .examples) (k .confirmed) (l .confirmed) (grows .confirmed) q (asks n (k .confirmed) (k .examples) q e) (r .premise) (b .wide)
+
+    opens : is-open (common n (l .examples)) (l .confirmed) (r .premise) ≡ true
+    opens = open-from (common n (l .examples)) (l .confirmed) (r .premise) (b .respected) (rw (b .concludes) at (b .opens))

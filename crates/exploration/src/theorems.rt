@@ -36,7 +36,7 @@ pub fn never_goes_back() -> u8
     0
 }
 
-// At most 2^n implications are confirmed and 2^n examples named, and none twice.
+// At most 2^n implications are confirmed and 2^n examples named, and no example twice.
 pub fn few_of_each() -> u8
     ensures { λ _. ⌜ Few-of-each ⌝ }
 {
