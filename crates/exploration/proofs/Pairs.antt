@@ -71,25 +71,29 @@ without (z ∷ xs) x h =
 pub at-most : {X Y : Type 0} (W : X → Y → Type 0) (xs : List X) (ys : List Y) → All (λ x. (y : Y) × Has ys y × W x y) xs → Pairwise (λ x z. (y : Y) → W x y → W z y → ⊥) xs → length xs ≤ length ys
 at-most W [] ys h p = omega arith
 at-most {X} {Y} W (x ∷ xs) ys h p =
-    let (y, m, w) = h .0 in
-    let rest = without ys y m in
-    let partner : (z : X) → Has xs z → (v : Y) × Has (rest .0) v × W z v = λ z k.
-    let g = all-has (λ z. (v : Y) × Has ys v × W z v) xs z (h .1) k in
-    elim (rest .2 (g .0) (g .1)) [
-      | inl e ↦ absurd (all-has (λ z. (v : Y) → W x v → W z v → ⊥) xs z (p .0) k y w (rw (← e) at (g .2)))
-      | inr r ↦ (g .0, r, g .2)
-    ] in
     let later = at-most W xs (rest .0) (all-from-has (λ z. (v : Y) × Has (rest .0) v × W z v) xs partner) (p .1) in
     omega (arith, later, rest .1)
+  where
+    -- the partners of the others
+    rest : Without ys (h .0 .0)
+    rest = without ys (h .0 .0) (h .0 .1)
+
+    partner : (z : X) → Has xs z → (v : Y) × Has (rest .0) v × W z v
+    partner z k =
+        let g = all-has (λ z. (v : Y) × Has ys v × W z v) xs z (h .1) k in
+        elim (rest .2 (g .0) (g .1)) [
+          | inl e ↦ absurd (all-has (λ z. (v : Y) → W x v → W z v → ⊥) xs z (p .0) k (h .0 .0) (h .0 .2) (rw (← e) at (g .2)))
+          | inr r ↦ (g .0, r, g .2)
+        ]
 
 -- pairwise different sets of n attributes are at most 2 ^ n
 pub at-most-sets : {X : Type 0} (n : ℕ) (f : X → Set) (xs : List X) → All (λ x. length (f x) ≡ n) xs → Pairwise (λ x y. f x ≢ f y) xs → length xs ≤ 2 ^ n
 at-most-sets {X} n f xs w p =
-    let laws = lectic-agrees n in
-    let listed : (x : X) → length (f x) ≡ n → (s : Set) × Has (sets n) s × (f x ≡ s) = λ x e.
-    let at = laws .listed (f x) e in
-    (f x, rw (at .2) at (has-getD (sets n) (at .0) [] (omega (arith, at .1, laws .count))), refl) in
-    let bound =
-    at-most (λ x s. f x ≡ s) xs (sets n) (all-weaker (λ x. length (f x) ≡ n) (λ x. (s : Set) × Has (sets n) s × (f x ≡ s)) listed xs w)
-    (pairwise-weaker (λ x y. f x ≢ f y) (λ x y. (s : Set) → f x ≡ s → f y ≡ s → ⊥) (λ x. length (f x) ≡ n) (λ x y _ _ ne s e g. ne (e ∙ sym g)) xs w p) in
-    omega (arith, bound, laws .count)
+    let each = all-weaker (λ x. length (f x) ≡ n) (λ x. (s : Set) × Has (sets n) s × (f x ≡ s)) listed xs w in
+    let apart = pairwise-weaker (λ x y. f x ≢ f y) (λ x y. (s : Set) → f x ≡ s → f y ≡ s → ⊥) (λ x. length (f x) ≡ n) (λ x y _ _ ne s e g. ne (e ∙ sym g)) xs w p in
+    omega (arith, at-most (λ x s. f x ≡ s) xs (sets n) each apart, lectic-agrees n .count)
+  where
+    listed : (x : X) → length (f x) ≡ n → (s : Set) × Has (sets n) s × (f x ≡ s)
+    listed x e =
+        let at = lectic-agrees n .listed (f x) e in
+        (f x, rw (at .2) at (has-getD (sets n) (at .0) [] (omega (arith, at .1, lectic-agrees n .count))), refl)

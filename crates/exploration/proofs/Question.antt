@@ -1,6 +1,6 @@
 -- What is asked, by its parts; and with what is true of a yard, what its examples ask the yard itself asks. Assumes nothing.
-use mathlib.Core.Path.{_≡_, refl, sym, ap, _∙_}
-use mathlib.Core.Bool.{Bool, true, false}
+use mathlib.Core.Path.{_≡_, refl, sym, ap, subst, _∙_}
+use mathlib.Core.Bool.{true, false}
 use mathlib.Core.List.{List}
 use Prim.Native.Nat.{ℕ}
 use lib.ListN.{length}
@@ -12,14 +12,14 @@ use Rattle.std.proofs.shelf.Elements.{all-has}
 use Rattle.attributes.specs.Sets.{Set, subset}
 use Rattle.attributes.specs.Lectic.{precedes, sets}
 use Rattle.attributes.proofs.Members.{all-from-has}
-use Rattle.attributes.proofs.Sets.{subset-trans, subset-antisym}
+use Rattle.attributes.proofs.Sets.{subset-refl, subset-trans, subset-antisym}
 use Rattle.contexts.specs.Contexts.{Context, Of-width, Implication, common, holds}
 use Rattle.contexts.proofs.CommonAttributes.{length-common, common-fewer, holds-by-common}
 use Rattle.implications.specs.Implications.{respects-all}
 use Rattle.premises.specs.Open.{is-open, first, first-open}
 use Rattle.premises.specs.Laws.{Is-first}
 use Rattle.premises.proofs.First.{first-laws, no-some}
-use Rattle.premises.proofs.Open.{open-parts, open-from, shut, shut-from}
+use Rattle.premises.proofs.Open.{open-parts, open-from, shut, shut-from, stays-shut}
 use Rattle.exploration.specs.Dialogue.{Knowledge, question}
 
 -- the question about a context t with the implications is: its premise is the first set that respects them and is not closed
@@ -63,14 +63,16 @@ module _ (n : ℕ) (is : List Implication) (t : Context) where
   pub asked : (q : Implication) → Asks n is t q → question n (known is t) ≡ Some q
   unfolding question first-open
   asked q a =
-      let s : Set = q .premise in
-      let f : Is-first n (is-open (common n t) is) s =
-      record {
-        wide = a .wide;
-        passes = open-from (common n t) is s (a .respected) (rw (a .concludes) at (a .opens));
-        earlier = λ r w p. shut-from (common n t) is r (a .earlier r w p);
-      } in
-      ap (mapped about) (first-laws n (is-open (common n t) is) .only s f) ∙ ap {B = Option Implication} Some (λ j. record { premise = s; conclusion = sym (a .concludes) j })
+      ap (mapped about) (first-laws n (is-open (common n t) is) .only (q .premise) found)
+      ∙ ap {B = Option Implication} Some (λ j. record { premise = q .premise; conclusion = sym (a .concludes) j })
+    where
+      found : Is-first n (is-open (common n t) is) (q .premise)
+      found =
+          record {
+            wide = a .wide;
+            passes = open-from (common n t) is (q .premise) (a .respected) (rw (a .concludes) at (a .opens));
+            earlier = λ r w p. shut-from (common n t) is r (a .earlier r w p);
+          }
 
   pub none-asked : question n (known is t) ≡ None → Shut n is t
   unfolding question first-open
@@ -84,6 +86,14 @@ module _ (n : ℕ) (is : List Implication) (t : Context) where
   unfolding question first-open
   shut-asks-none h = ap (mapped about) (first-laws n (is-open (common n t) is) .nothing (λ s w. shut-from (common n t) is s (h s w)))
 
+-- what a context asks holds for it
+module _ (n : ℕ) (t : Context) (wide : Of-width n t) (is : List Implication) (q : Implication) (a : Asks n is t q) where
+  pub asks-concluded : length (q .conclusion) ≡ n
+  asks-concluded = ap length (a .concludes) ∙ length-common n t (q .premise) wide
+
+  pub asks-holds : holds t q ≡ true
+  asks-holds = holds-by-common n t q asks-concluded ∙ subst (λ (c : Set). subset (q .conclusion) c ≡ true) (a .concludes) (subset-refl (q .conclusion))
+
 -- t: the examples, which stand in the yard u
 module _ (n : ℕ) (t u : Context) (wide : Of-width n u) (stand : (o : Set) → Has t o → Has u o) where
   -- a set that is closed among the examples is closed in the yard
@@ -96,18 +106,22 @@ module _ (n : ℕ) (t u : Context) (wide : Of-width n u) (stand : (o : Set) → 
   -- a question that is true of the yard is what the yard asks
   pub same-question : (is : List Implication) (q : Implication) → Asks n is t q → holds u q ≡ true → Asks n is u q
   same-question is q a h =
-      let s : Set = q .premise in
-      let concluded : length (q .conclusion) ≡ n = ap length (a .concludes) ∙ length-common n t s narrow in
-      let concludes : q .conclusion ≡ common n u s =
-      subset-antisym (q .conclusion) (common n u s) (concluded ∙ sym (length-common n u s wide))
-      (sym (holds-by-common n u q concluded) ∙ h) (rw (a .concludes) (common-fewer n t u s wide stand)) in
       record {
         wide = a .wide;
-        concludes = concludes;
+        concludes =
+            subset-antisym (q .conclusion) (common n u (q .premise)) (concluded ∙ sym (length-common n u (q .premise) wide))
+            (sym (holds-by-common n u q concluded) ∙ h) (rw (a .concludes) (common-fewer n t u (q .premise) wide stand));
         respected = a .respected;
         opens = a .opens;
         earlier = λ s w p r. stays-closed s (a .earlier s w p r);
       }
+    where
+      concluded : length (q .conclusion) ≡ n
+      concluded = asks-concluded n t narrow is q a
 
   pub same-end : (is : List Implication) → Shut n is t → Shut n is u
   same-end is h s w r = stays-closed s (h s w r)
+
+  -- a set that precedes what was asked about is not open once more is known
+  pub passed : (is more : List Implication) → ((i : Implication) → Has is i → Has more i) → (q : Implication) → Asks n is t q → (s : Set) → length s ≡ n → precedes s (q .premise) ≡ true → is-open (common n u) more s ≡ false
+  passed is more add q a s w p = stays-shut (common n t) (common n u) is more s add (common-fewer n t u s wide stand) (shut-from (common n t) is s (a .earlier s w p))

@@ -1,26 +1,25 @@
 -- What a yard asks if each question is confirmed: the implications in turn, independent of each other, and determined by the yard. Assumes nothing.
 use mathlib.Core.Path.{_≡_, refl, sym, ap, subst, _∙_}
-use mathlib.Core.Bool.{true, false}
+use mathlib.Core.Bool.{true}
 use mathlib.Core.List.{List, [], _∷_, _++_, append-nil, append-assoc}
-use mathlib.Core.Logic.{_⊎_, inl, inr, _≢_}
+use mathlib.Core.Logic.{inl, inr, _≢_}
 use Prim.Native.Nat.{ℕ, _^_, _≤_}
 use lib.ListN.{length}
-use Rattle.std.specs.declared.option.Option.the-variants.{Some, None}
 use Rattle.std.specs.shelf.Lists.{All, Has}
 use Rattle.std.proofs.shelf.Elements.{all-weaker, has-append-left, has-push}
 use Rattle.std.proofs.shelf.Tests.{both-ways}
 use Rattle.attributes.specs.Sets.{Set, subset}
 use Rattle.attributes.proofs.Lectic.{subset-first}
+use Rattle.attributes.proofs.Members.{has-here, has-there}
 use Rattle.attributes.proofs.Sets.{subset-refl}
-use Rattle.contexts.specs.Contexts.{Context, Implication, common, respects}
+use Rattle.contexts.specs.Contexts.{Context, Of-width, Implication, common, respects, holds}
 use Rattle.contexts.proofs.Holding.{respects-apply, respects-from}
 use Rattle.implications.specs.Implications.{respects-all}
 use Rattle.implications.proofs.Respects.{respects-has, respects-fewer}
 use Rattle.premises.proofs.First.{no-some}
-use Rattle.exploration.specs.Dialogue.{question}
 use Rattle.exploration.specs.Promise.{Pairwise}
 use Rattle.exploration.proofs.Pairs.{pairwise-weaker, at-most-sets}
-use Rattle.exploration.proofs.Question.{Asks, Shut, known, asked, shut-asks-none}
+use Rattle.exploration.proofs.Question.{Asks, Shut, asked, shut-asks-none, same-question}
 
 -- each member of rs in turn is what the yard u asks with the implications is and the members before it
 abbrev pub Run : ℕ → Context → List Implication → List Implication → Type 0
@@ -44,7 +43,7 @@ module _ (n : ℕ) (u : Context) where
   )
 
   -- what is asked has not all of what it concludes
-  breaks-itself : (is : List Implication) (q : Implication) → Asks n is u q → respects (q .premise) q ≡ true → ⊥
+  pub breaks-itself : (is : List Implication) (q : Implication) → Asks n is u q → respects (q .premise) q ≡ true → ⊥
   breaks-itself is q a h = both-ways (subset (q .conclusion) (q .premise)) (a .opens) (respects-apply (q .premise) q h (subset-refl (q .premise)))
 
   independent : (is : List Implication) (r q : Implication) → Asks n is u r → Later n u (is ++ r ∷ []) q → Independent r q
@@ -81,8 +80,16 @@ module _ (n : ℕ) (u : Context) where
   same-run is (r ∷ rs) [] p _ _ k = absurd (no-some (sym (shut-asks-none n is u (rw append-nil at k)) ∙ asked n is u r (p .0)))
   same-run is (r ∷ rs) (q ∷ qs) p m h k =
       let same : r ≡ q = cc (asked n is u r (p .0), asked n is u q (m .0)) in
-      let split : (qs : List Implication) → is ++ r ∷ qs ≡ (is ++ r ∷ []) ++ qs = λ qs. sym (append-assoc is (r ∷ []) qs) in
-      let rest : rs ≡ qs =
-      same-run (is ++ r ∷ []) rs qs (p .1) (rw (sym same) at (m .1)) (subst (λ (l : List Implication). Shut n l u) (split rs) h)
-      (subst (λ (l : List Implication). Shut n l u) (ap (λ (i : Implication). is ++ i ∷ qs) (sym same) ∙ split qs) k) in
-      cc
+      let first-shut = subst (λ (l : List Implication). Shut n l u) (sym (append-assoc is (r ∷ []) rs)) h in
+      let other-shut = subst (λ (l : List Implication). Shut n l u) (ap (λ (i : Implication). is ++ i ∷ qs) (sym same) ∙ sym (append-assoc is (r ∷ []) qs)) k in
+      cc (same, same-run (is ++ r ∷ []) rs qs (p .1) (rw (sym same) at (m .1)) first-shut other-shut)
+
+  pub run-push : (is rs : List Implication) (q : Implication) → Run n u is rs → Asks n (is ++ rs) u q → Run n u is (rs ++ q ∷ [])
+  run-push is [] q run a = (rw append-nil at a, tt)
+  run-push is (r ∷ rs) q run a = (run .0, run-push (is ++ r ∷ []) rs q (run .1) (subst (λ (l : List Implication). Asks n l u q) (sym (append-assoc is (r ∷ []) rs)) a))
+
+-- what examples ask, their yard asks, where the answers are true
+pub run-grows : (n : ℕ) (t u : Context) → Of-width n u → ((o : Set) → Has t o → Has u o) → (is rs : List Implication) → ((r : Implication) → Has rs r → holds u r ≡ true) → Run n t is rs → Run n u is rs
+run-grows n t u wide stand is [] h run = tt
+run-grows n t u wide stand is (r ∷ rs) h run =
+    (same-question n t u wide stand is r (run .0) (h r (has-here r rs)), run-grows n t u wide stand (is ++ r ∷ []) rs (λ q m. h q (has-there r rs q m)) (run .1))

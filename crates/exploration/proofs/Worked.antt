@@ -9,13 +9,13 @@ use lib.ListN.{length, getD, take}
 use Rattle.std.proofs.shelf.Tests.{and-from}
 use Rattle.std.specs.declared.option.Option.{Option}
 use Rattle.std.specs.declared.option.Option.the-variants.{Some, None}
-use Rattle.std.specs.shelf.Lists.{Has}
 use Rattle.attributes.specs.Sets.{Set, subset, meet, everything}
 use Rattle.attributes.specs.Lectic.{sets}
+use Rattle.attributes.proofs.Members.{has-here, has-there}
 use Rattle.contexts.specs.Contexts.{Context, Implication, common, respects, holds}
 use Rattle.implications.specs.Implications.{respects-all}
 use Rattle.premises.specs.Open.{is-open, first, first-open}
-use Rattle.exploration.specs.Dialogue.{Knowledge, nothing-known, question, Answer, always, object, after, after-all, True-answer, Truthful}
+use Rattle.exploration.specs.Dialogue.{Knowledge, nothing-known, question, always, after, after-all, True-answer, Truthful}
 use Rattle.exploration.specs.Worked.{Row, row, table, answers, yard, first-named, foreman, Worked-dialogue}
 
 -- what is asked before each row's answer, and at the end
@@ -45,17 +45,14 @@ listed-at (r ∷ rs) zero h = refl
 listed-at (r ∷ rs) (suc i) h = listed-at rs i (le-of-suc-le-suc h)
 
 -- a foreman who names the first object that breaks what is asked is truthful
-shift : (y : Set) (t : Context) (s : Set) → Has t s → Has (y ∷ t) s
-shift y t s h = (suc (h .0), omega (arith, h .1), h .2)
-
 more : (o : Set) (os : Context) (q : Implication) (b : Bool) → respects o q ≡ b → (r : Option Set)
     → True-answer os (Some q) (first-named r) → True-answer (o ∷ os) (Some q) (first-named (cond (not b) (Some o) r))
 unfolding holds
-more o os q false e r h = ((0, omega arith, λ d. refl), e)
+more o os q false e r h = (has-here o os, e)
 more o os q true e None h = and-from (respects o q) (holds os q) e h
-more o os q true e (Some s) h = (shift o os s (h .0), h .1)
+more o os q true e (Some s) h = (has-there o os s (h .0), h .1)
 
-first-true : (t : Context) (q : Implication) → True-answer t (Some q) (first-named (first (λ (s : Set). not (respects s q)) t))
+pub first-true : (t : Context) (q : Implication) → True-answer t (Some q) (first-named (first (λ (s : Set). not (respects s q)) t))
 unfolding holds first
 first-true [] q = refl
 first-true (o ∷ os) q = more o os q (respects o q) refl (first (λ (s : Set). not (respects s q)) os) (first-true os q)

@@ -9,10 +9,21 @@ use contexts::Implication;
 
 mod reply;
 mod row;
+mod theorems;
 
 pub use reply::Refusal;
 pub use reply::Reply;
 pub use reply::ReplyDisplay;
+pub use theorems::always_room;
+pub use theorems::answers_bounded;
+pub use theorems::can_be_finished;
+pub use theorems::few_of_each;
+pub use theorems::main_promise;
+pub use theorems::never_goes_back;
+pub use theorems::none_is_spare;
+pub use theorems::nothing_settled_is_asked;
+pub use theorems::same_implications;
+pub use theorems::truth_is_taken;
 
 // The numbers of a row: how many attributes there are, two counts, room for 4,096 implications of two sets each and for 4,096 examples.
 pub const ROW_LENGTH: usize = 12291;

@@ -1,16 +1,18 @@
 -- Sets and contexts that respect lists of implications, and what follows from a list. Assumes nothing.
 use mathlib.Core.Path.{_≡_, refl, sym, _∙_}
-use mathlib.Core.Bool.{true}
-use mathlib.Core.List.{List, [], _∷_}
+use mathlib.Core.Bool.{true, false}
+use mathlib.Core.List.{List, [], _∷_, _++_}
+use mathlib.Core.Logic.{inl, inr}
 use Prim.Native.Nat.{ℕ}
 use native.Mathlib.Omega.{arith}
 use lib.ListN.{length}
 use Rattle.std.specs.Orderings.{Decides}
 use Rattle.std.specs.shelf.Lists.{All, Has}
-use Rattle.std.proofs.shelf.Elements.{all-has}
+use Rattle.std.proofs.shelf.Elements.{all-append, all-has, all-push}
+use Rattle.std.proofs.shelf.Tests.{and-cases, both-ways}
 use Rattle.std.proofs.shelf.Ways.{decides-by-and}
 use Rattle.attributes.specs.Sets.{Set, meet}
-use Rattle.attributes.proofs.Members.{all-from-has}
+use Rattle.attributes.proofs.Members.{all-from-has, has-here, has-there}
 use Rattle.attributes.proofs.Sets.{subset-trans, subset-antisym, meet-left, meet-right, meet-greatest}
 use Rattle.contexts.specs.Contexts.{Context, Implication, respects, holds}
 use Rattle.contexts.proofs.Holding.{respects-apply, respects-from, holds-has, has-holds}
@@ -31,6 +33,20 @@ has-respects s is h = respects-each s is .1 (all-from-has (λ (i : Implication).
 pub respects-fewer : (s : Set) (is more : List Implication) → ((i : Implication) → Has is i → Has more i) → respects-all s more ≡ true → respects-all s is ≡ true
 respects-fewer s is more add h = has-respects s is (λ i m. respects-has s more h i (add i m))
 
+pub respects-append : (s : Set) (is more : List Implication) → respects-all s is ≡ true → respects-all s more ≡ true → respects-all s (is ++ more) ≡ true
+respects-append s is more h k =
+    respects-each s (is ++ more) .1 (all-append (λ (i : Implication). respects s i ≡ true) is more (respects-each s is .0 h) (respects-each s more .0 k))
+
+-- a set that does not respect a list breaks a member
+pub breaks-member : (s : Set) (is : List Implication) → respects-all s is ≡ false → (i : Implication) × Has is i × (respects s i ≡ false)
+unfolding respects-all
+breaks-member s [] e = absurd (both-ways true e refl)
+breaks-member s (i ∷ is) e =
+    elim (and-cases (respects s i) (respects-all s is) e) [
+      | inl h ↦ (i, has-here i is, h)
+      | inr h ↦ let m = breaks-member s is h in (m .0, has-there i is (m .0) (m .1), m .2)
+    ]
+
 -- a list holds for a context exactly if each member does
 hold-each : (t : Context) (is : List Implication) → Decides (all-hold t is) (All (λ (i : Implication). holds t i ≡ true) is)
 unfolding all-hold
@@ -41,6 +57,9 @@ all-hold-has t is h i m = all-has (λ (i : Implication). holds t i ≡ true) is 
 
 pub has-all-hold : (t : Context) (is : List Implication) → ((i : Implication) → Has is i → holds t i ≡ true) → all-hold t is ≡ true
 has-all-hold t is h = hold-each t is .1 (all-from-has (λ (i : Implication). holds t i ≡ true) is h)
+
+pub all-hold-push : (t : Context) (is : List Implication) (i : Implication) → all-hold t is ≡ true → holds t i ≡ true → all-hold t (is ++ i ∷ []) ≡ true
+all-hold-push t is i h k = hold-each t (is ++ i ∷ []) .1 (all-push (λ (j : Implication). holds t j ≡ true) is i (hold-each t is .0 h) k)
 
 -- a list holds for a context exactly if each object respects the list
 pub object-respects : (t : Context) (is : List Implication) → all-hold t is ≡ true → (o : Set) → Has t o → respects-all o is ≡ true
