@@ -1,6 +1,6 @@
 // How many attributes there are.
 ghost use mathlib.Core.Path.{_≡_};
-ghost use Prim.Native.Nat.{_≤_, _<_};
+ghost use Prim.Native.Nat.{_^_, _≤_, _<_};
 ghost use Rattle.std.specs.Options.{Cases};
 
 // The number of attributes of a context, 0 to 12.
@@ -26,5 +26,12 @@ impl AttributeCount {
         ensures few { λ r. ⌜ r ≤ 12 ⌝ }
     {
         self.value
+    }
+
+    // The numbers below this stand for sets of these attributes.
+    pub fn limit(self) -> u64
+        ensures { λ r. ⌜ r ≡ 2 ^ self .value ⌝ }
+    {
+        1u64 << self.value
     }
 }

@@ -42,7 +42,7 @@ impl AttributeSet {
     pub fn from_number(n: AttributeCount, number: u64) -> Option<AttributeSet>
         ensures { λ r. ⌜ Cases r (2 ^ n .value ≤ number) (λ s. (s .bits ≡ number) × (number < 2 ^ n .value)) ⌝ }
     {
-        if number >= 1u64 << n.get() {
+        if number >= n.limit() {
             return None;
         }
         Some(AttributeSet {
@@ -56,7 +56,7 @@ impl AttributeSet {
         ensures bound { λ r. ⌜ r .bits < 2 ^ n .value ⌝ }
     {
         AttributeSet {
-            bits: (number & ((1u64 << n.get()) - 1)) as u16,
+            bits: (number & (n.limit() - 1)) as u16,
         }
     }
 

@@ -15,7 +15,7 @@ use Rattle.implications.proofs.Respects.{all-hold-has}
 use Rattle.exploration.specs.Dialogue.{Knowledge, nothing-known, question, Answer}
 use Rattle.exploration.specs.Promise.{learnt, Honest, Main-promise, Same-implications, Truth-is-taken}
 use Rattle.exploration.proofs.Least.{shut-follows, fewest}
-use Rattle.exploration.proofs.Question.{Shut, none-asked, same-end}
+use Rattle.exploration.proofs.Asked.{Shut, none-asked, same-end}
 use Rattle.exploration.proofs.Reached.{Reached, reached-learnt}
 use Rattle.exploration.proofs.Run.{Run, run-grows, same-run}
 use Rattle.exploration.proofs.Truth.{Fits, takes, fits-all}

@@ -18,7 +18,7 @@ use Rattle.implications.specs.Implications.{Over, respects-all, Follows, Comple
 use Rattle.implications.proofs.Respects.{has-respects, respects-fewer, respects-append, breaks-member, all-hold-has, one-set-decides, meet-respects, meet-respects-one}
 use Rattle.exploration.specs.Promise.{Pairwise}
 use Rattle.exploration.proofs.Pairs.{pairwise-has, pairwise-around, pairwise-weaker, at-most}
-use Rattle.exploration.proofs.Question.{Shut, asks-concluded, asks-holds}
+use Rattle.exploration.proofs.Asked.{Shut, asks-concluded, asks-holds}
 use Rattle.exploration.proofs.Run.{Run, Later, Independent, run-later, run-independent, breaks-itself}
 
 turned : (r q : Implication) → Independent r q → Independent q r

@@ -1,12 +1,14 @@
 mod Ending
 mod Faults
 mod Opening
+mod Replies
+mod Rows
 mod Worked
 pub mod Bounds
 pub mod Finish
 pub mod Least
 pub mod Pairs
-pub mod Question
+pub mod Asked
 pub mod Reached
 pub mod Run
 pub mod Settled

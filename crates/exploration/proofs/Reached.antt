@@ -21,7 +21,7 @@ use Rattle.implications.proofs.Respects.{all-hold-has, object-respects, objects
 use Rattle.exploration.specs.Dialogue.{Knowledge, nothing-known, question, Answer, always, object, taken, with-answer, after, after-all}
 use Rattle.exploration.specs.Promise.{learnt, Pairwise}
 use Rattle.exploration.proofs.Pairs.{pairwise-push}
-use Rattle.exploration.proofs.Question.{Asks, asks, asks-holds}
+use Rattle.exploration.proofs.Asked.{Asks, asks, asks-holds}
 use Rattle.exploration.proofs.Run.{Run, run-push, run-grows}
 
 -- k is reached by answers from the implications is

@@ -19,7 +19,7 @@ use Rattle.implications.proofs.Respects.{respects-has, respects-fewer}
 use Rattle.premises.proofs.First.{no-some}
 use Rattle.exploration.specs.Promise.{Pairwise}
 use Rattle.exploration.proofs.Pairs.{pairwise-weaker, at-most-sets}
-use Rattle.exploration.proofs.Question.{Asks, Shut, asked, shut-asks-none, same-question}
+use Rattle.exploration.proofs.Asked.{Asks, Shut, asked, shut-asks-none, same-question}
 
 -- each member of rs in turn is what the yard u asks with the implications is and the members before it
 abbrev pub Run : ℕ → Context → List Implication → List Implication → Type 0

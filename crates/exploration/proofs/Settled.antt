@@ -16,7 +16,7 @@ use Rattle.premises.proofs.Open.{open-from}
 use Rattle.exploration.specs.Dialogue.{Knowledge, nothing-known, after, Truthful}
 use Rattle.exploration.specs.Promise.{learnt, Nothing-settled-is-asked, Never-goes-back}
 use Rattle.exploration.proofs.Finish.{nothing-fits}
-use Rattle.exploration.proofs.Question.{Asks, asks, asks-holds, passed}
+use Rattle.exploration.proofs.Asked.{Asks, asks, asks-holds, passed}
 use Rattle.exploration.proofs.Reached.{Reached, reached-after, reached-learnt}
 use Rattle.exploration.proofs.Run.{breaks-itself}
 use Rattle.exploration.proofs.Truth.{Fits, Grows, grows-after, retold}

@@ -12,7 +12,7 @@ use Rattle.std.specs.shelf.Lists.{Has}
 use Rattle.attributes.specs.Sets.{Set}
 use Rattle.contexts.specs.Contexts.{Context, Implication, common, respects, holds}
 use Rattle.implications.specs.Implications.{respects-all}
-use Rattle.premises.specs.Open.{first-open}
+use Rattle.premises.specs.Open.{first-open, first-open-from}
 
 -- the implications confirmed and the examples named, each in the order in which they came
 pub record Knowledge : Type 0 where
@@ -22,11 +22,17 @@ pub record Knowledge : Type 0 where
 abbrev pub nothing-known : Knowledge
 nothing-known = record { confirmed = []; examples = [] }
 
--- what is asked next: have all objects with the attributes of the first open set also what the examples with them have?
+-- the question about a set: have all objects with its attributes also what the examples with them have?
+abbrev pub about : ℕ → Knowledge → Set → Implication
+about n k s = record { premise = s; conclusion = common n (k .examples) s }
+
+-- what is asked next: the question about the first open set
 unfoldable pub question : ℕ → Knowledge → Option Implication
-question n k =
-    mapped (λ (s : Set). record { premise = s; conclusion = common n (k .examples) s })
-    (first-open n (common n (k .examples)) (k .confirmed))
+question n k = mapped (about n k) (first-open n (common n (k .examples)) (k .confirmed))
+
+-- the same, about the first open set that does not precede a given one
+unfoldable pub question-from : ℕ → Knowledge → Set → Option Implication
+question-from n k from = mapped (about n k) (first-open-from n (common n (k .examples)) (k .confirmed) from)
 
 -- "always", or an object that has the premise and not all of the conclusion
 pub data Answer : Type 0 where

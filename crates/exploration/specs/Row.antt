@@ -7,11 +7,15 @@ use lib.Dec.{ltb}
 use lib.ListN.{length, getD, take, drop, set}
 use Rattle.std.specs.declared.option.Option.{Option}
 use Rattle.std.specs.declared.option.Option.the-variants.{Some, None}
+use Rattle.std.specs.declared.result.Result.{Result}
+use Rattle.std.specs.declared.result.Result.the-variants.{Ok, Err}
 use Rattle.attributes.specs.Numbers.{number-of}
 use Rattle.contexts.specs.Contexts.{Implication}
 use Rattle.contexts.specs.Values.{objects-in}
+use Rattle.contexts.specs.declared.implication.Implication.{Implication as Pair}
 use Rattle.implications.specs.Values.{implications-in}
 use Rattle.exploration.specs.Dialogue.{Knowledge, nothing-known, question}
+use Rattle.exploration.specs.declared.row.Counts.{Counts}
 use Rattle.exploration.specs.declared.reply.Refusal.{Refusal}
 use Rattle.exploration.specs.declared.reply.Refusal.the-variants.{RowTooShort, TooManyImplications, TooManyExamples, TooManyAttributes, UnknownAttribute}
 use Rattle.exploration.specs.declared.reply.Reply.{Reply}
@@ -31,6 +35,14 @@ example-part row = take (getD row 2 0) (drop 8195 row)
 abbrev pub known-in : List ℕ → Knowledge
 known-in row = record { confirmed = implications-in (attributes-in row) (implication-part row); examples = objects-in (attributes-in row) (example-part row) }
 
+-- the counts, or the first refusal of number 1 that applies
+abbrev pub checked-row : List ℕ → Result Counts Refusal
+checked-row row =
+    cond (ltb (length row) 12291) (Err (RowTooShort (length row)))
+    (cond (ltb 4096 (getD row 1 0)) (Err TooManyImplications)
+    (cond (ltb 4096 (getD row 2 0)) (Err TooManyExamples)
+    (Ok (record { implications = getD row 1 0; examples = getD row 2 0 }))))
+
 -- the place, counted from `at`, of the first number that is not below the limit
 unfoldable pub first-from : ℕ → ℕ → List ℕ → Option ℕ
 first-from limit at [] = None
@@ -46,19 +58,27 @@ abbrev pub unknown-attribute : List ℕ → Option Refusal
 unknown-attribute row =
     unknown-at (first-from (2 ^ attributes-in row) 3 (implication-part row)) (first-from (2 ^ attributes-in row) 8195 (example-part row))
 
+abbrev pub fault-or : Result Counts Refusal → Option Refusal → Option Refusal
+fault-or (Ok counts) later = later
+fault-or (Err fault) later = Some fault
+
+-- the first refusal of number 2 that applies
+abbrev pub attribute-fault : List ℕ → Option Refusal
+attribute-fault row = cond (ltb 12 (attributes-in row)) (Some TooManyAttributes) (unknown-attribute row)
+
 -- the first refusal that applies to the row
 abbrev pub row-fault : List ℕ → Option Refusal
-row-fault row =
-    cond (ltb (length row) 12291) (Some (RowTooShort (length row)))
-    (cond (ltb 4096 (getD row 1 0)) (Some TooManyImplications)
-    (cond (ltb 4096 (getD row 2 0)) (Some TooManyExamples)
-    (cond (ltb 12 (attributes-in row)) (Some TooManyAttributes)
-    (unknown-attribute row))))
+row-fault row = fault-or (checked-row row) (attribute-fault row)
 
 -- what is asked, as a reply
 abbrev pub reply-of : Option Implication → Reply
 reply-of None = Finished
 reply-of (Some q) = Question (record { premise = record { bits = number-of (q .premise) }; conclusion = record { bits = number-of (q .conclusion) } })
+
+-- the same for a question of the code
+abbrev pub reply-with : Option Pair → Reply
+reply-with None = Finished
+reply-with (Some q) = Question q
 
 abbrev pub reply-unless : Option Refusal → Reply → Reply
 reply-unless None reply = reply

@@ -1,12 +1,20 @@
 // Attribute exploration: the dialogue over lent memory.
 ghost use mathlib.Core.Path.{_≡_};
 ghost use Rattle.exploration.specs.Dialogue.{nothing-known, question};
-ghost use Rattle.exploration.specs.Row.{opening, opened, reply-of};
+ghost use Rattle.exploration.specs.Row.{asked-of, opening, opened, reply-of};
 ghost use Rattle.exploration.specs.Worked.{Worked-dialogue};
+use asking::ask_from;
+use asking::reply;
 use attributes::AttributeCount;
 use attributes::AttributeSet;
 use contexts::Implication;
+use row::check_attributes;
+use row::check_row;
+use row::examples_of;
+use row::implications_of;
+use row::refusal_of;
 
+mod asking;
 mod reply;
 mod row;
 mod theorems;
@@ -14,6 +22,7 @@ mod theorems;
 pub use reply::Refusal;
 pub use reply::Reply;
 pub use reply::ReplyDisplay;
+pub use row::ROW_LENGTH;
 pub use theorems::always_room;
 pub use theorems::answers_bounded;
 pub use theorems::can_be_finished;
@@ -24,9 +33,6 @@ pub use theorems::none_is_spare;
 pub use theorems::nothing_settled_is_asked;
 pub use theorems::same_implications;
 pub use theorems::truth_is_taken;
-
-// The numbers of a row: how many attributes there are, two counts, room for 4,096 implications of two sets each and for 4,096 examples.
-pub const ROW_LENGTH: usize = 12291;
 
 // Opens a row for an exploration of n attributes that knows nothing, and replies with its first question.
 pub fn open(known: &mut [u64], n: u64) -> Reply
@@ -43,6 +49,27 @@ pub fn open(known: &mut [u64], n: u64) -> Reply
     known[1] = 0;
     known[2] = 0;
     first_question(count)
+}
+
+// What is asked next with what a row knows.
+pub fn question(known: &[u64]) -> Reply
+    ensures { λ r. ⌜ r ≡ asked-of (now (known .entry)) ⌝ }
+{
+    let counts = check_row(known);
+    let Ok(counts) = counts else {
+        return Reply::Refused(refusal_of(counts));
+    };
+    let n = check_attributes(known, counts);
+    let Ok(n) = n else {
+        return Reply::Refused(refusal_of(n));
+    };
+    let asked = ask_from(
+        n,
+        implications_of(known, counts),
+        examples_of(known, counts),
+        AttributeSet::empty(),
+    );
+    reply(asked)
 }
 
 // What is asked when nothing is known.

@@ -1,13 +1,12 @@
 // The lent row: its checks, and its parts.
 ghost use mathlib.Core.Path.{_≡_};
-ghost use mathlib.Core.Bool.{true, cond};
-ghost use Prim.Native.Nat.{_+_, _*_, _^_, _≤_, _<_};
-ghost use lib.Dec.{ltb};
-ghost use lib.ListN.{length, getD, take, drop};
+ghost use mathlib.Core.Bool.{true};
+ghost use Prim.Native.Nat.{_+_, _^_, _<_};
+ghost use lib.ListN.{length};
 ghost use Rattle.std.specs.Results.{Cases, isErr};
 ghost use Rattle.std.specs.declared.option.Option.the-variants.{None, Some};
-ghost use Rattle.std.specs.declared.result.Result.the-variants.{Err};
-ghost use Rattle.exploration.specs.Row.{attributes-in, example-part, first-from, implication-part, row-fault};
+ghost use Rattle.std.specs.declared.result.Result.the-variants.{Ok, Err};
+ghost use Rattle.exploration.specs.Row.{attribute-fault, attributes-in, checked-row, example-part, first-from, implication-part};
 use crate::reply::Refusal;
 use attributes::AttributeCount;
 
@@ -22,10 +21,9 @@ pub const IMPLICATIONS: usize = 3;
 
 pub const EXAMPLES: usize = 8195;
 
-// What the first three numbers of a row say, once they are checked.
+// How many implications and examples a row knows.
 #[derive(Clone, Copy)]
-pub struct Header {
-    pub n: AttributeCount,
+pub struct Counts {
     pub implications: usize,
     pub examples: usize,
 }
@@ -39,6 +37,59 @@ pub fn refusal_of<T: Copy>(checked: Result<T, Refusal>) -> Refusal
         Ok(_) => unreachable(),
         Err(refusal) => refusal,
     }
+}
+
+// The counts of a row, if it is long enough and has room for them.
+pub fn check_row(known: &[u64]) -> Result<Counts, Refusal>
+    ensures { λ r. ⌜ r ≡ checked-row (now (known .entry)) ⌝ }
+{
+    if known.len() < ROW_LENGTH {
+        return Err(Refusal::RowTooShort(known.len()));
+    }
+    if known[1] > ROOM {
+        return Err(Refusal::TooManyImplications);
+    }
+    if known[2] > ROOM {
+        return Err(Refusal::TooManyExamples);
+    }
+    Ok(Counts {
+        implications: known[1] as usize,
+        examples: known[2] as usize,
+    })
+}
+
+// The numbers of the implications, two for each.
+pub fn implications_of(known: &[u64], counts: Counts) -> &[u64]
+    requires { ⌜ checked-row (now known) ≡ Ok counts ⌝ }
+    ensures { λ r. ⌜ now r ≡ implication-part (now (known .entry)) ⌝ }
+{
+    &known[IMPLICATIONS..IMPLICATIONS + 2 * counts.implications]
+}
+
+// The numbers of the examples.
+pub fn examples_of(known: &[u64], counts: Counts) -> &[u64]
+    requires { ⌜ checked-row (now known) ≡ Ok counts ⌝ }
+    ensures { λ r. ⌜ now r ≡ example-part (now (known .entry)) ⌝ }
+{
+    &known[EXAMPLES..EXAMPLES + counts.examples]
+}
+
+// How many attributes there are, if no number of the row has one that is not there.
+pub fn check_attributes(known: &[u64], counts: Counts) -> Result<AttributeCount, Refusal>
+    requires { ⌜ checked-row (now known) ≡ Ok counts ⌝ }
+    ensures { λ r. ⌜ Cases r (λ n. (n .value ≡ attributes-in (now (known .entry))) × (attribute-fault (now (known .entry)) ≡ None)) (λ fault. attribute-fault (now (known .entry)) ≡ Some fault) ⌝ }
+{
+    let Some(n) = AttributeCount::new(known[0]) else {
+        return Err(Refusal::TooManyAttributes);
+    };
+    let limit = n.limit();
+    if let Some(place) = first_not_below(limit, IMPLICATIONS, implications_of(known, counts)) {
+        return Err(Refusal::UnknownAttribute(place));
+    }
+    if let Some(place) = first_not_below(limit, EXAMPLES, examples_of(known, counts)) {
+        return Err(Refusal::UnknownAttribute(place));
+    }
+    Ok(n)
 }
 
 // The place of the first number that is not below a limit, counted from `at`.
