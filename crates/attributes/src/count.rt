@@ -3,7 +3,10 @@ ghost use mathlib.Core.Path.{_≡_};
 ghost use Prim.Native.Nat.{_^_, _≤_, _<_};
 ghost use Rattle.std.specs.Options.{Cases};
 
-// The number of attributes of a context, 0 to 12.
+// There are at most this many attributes.
+pub const MOST_ATTRIBUTES: u64 = 12;
+
+// The number of attributes of a context.
 #[derive(Clone, Copy)]
 pub struct AttributeCount {
     value: u8,
@@ -11,11 +14,11 @@ pub struct AttributeCount {
 }
 
 impl AttributeCount {
-    // None above 12.
+    // None if there are too many.
     pub fn new(value: u64) -> Option<AttributeCount>
         ensures { λ r. ⌜ Cases r (12 < value) (λ n. n .value ≡ value) ⌝ }
     {
-        if value > 12 {
+        if value > MOST_ATTRIBUTES {
             return None;
         }
         Some(AttributeCount { value: value as u8 })

@@ -5,6 +5,7 @@ mod laws;
 mod set;
 
 pub use count::AttributeCount;
+pub use count::MOST_ATTRIBUTES;
 pub use laws::lectic_agrees;
 pub use laws::order_laws;
 pub use set::AttributeSet;

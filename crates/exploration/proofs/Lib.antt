@@ -1,6 +1,5 @@
 mod Ending
 mod Faults
-mod Opening
 mod Replies
 mod Rows
 mod Worked

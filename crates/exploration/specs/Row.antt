@@ -14,7 +14,7 @@ use Rattle.contexts.specs.Contexts.{Implication}
 use Rattle.contexts.specs.Values.{objects-in}
 use Rattle.contexts.specs.declared.implication.Implication.{Implication as Pair}
 use Rattle.implications.specs.Values.{implications-in}
-use Rattle.exploration.specs.Dialogue.{Knowledge, nothing-known, question}
+use Rattle.exploration.specs.Dialogue.{Knowledge, question}
 use Rattle.exploration.specs.declared.row.Counts.{Counts}
 use Rattle.exploration.specs.declared.reply.Refusal.{Refusal}
 use Rattle.exploration.specs.declared.reply.Refusal.the-variants.{RowTooShort, TooManyImplications, TooManyExamples, TooManyAttributes, UnknownAttribute}
@@ -88,11 +88,9 @@ reply-unless (Some fault) reply = Refused fault
 abbrev pub asked-of : List ℕ → Reply
 asked-of row = reply-unless (row-fault row) (reply-of (question (attributes-in row) (known-in row)))
 
--- the reply to opening a row for n attributes: the first refusal that applies, or what is asked when nothing is known
-abbrev pub opening : ℕ → List ℕ → Reply
-opening n row =
-    cond (ltb (length row) 12291) (Refused (RowTooShort (length row)))
-    (cond (ltb 12 n) (Refused TooManyAttributes) (reply-of (question n nothing-known)))
+-- opening a row for n attributes: the first refusal that applies, if one does
+abbrev pub opening : ℕ → List ℕ → Result (Unit {0}) Refusal
+opening n row = cond (ltb (length row) 12291) (Err (RowTooShort (length row))) (cond (ltb 12 n) (Err TooManyAttributes) (Ok tt))
 
 -- the row after it: n and two counts of 0, and all else as it was; or all as it was
 abbrev pub opened : ℕ → List ℕ → List ℕ

@@ -1,13 +1,11 @@
 // Attribute exploration: the dialogue over lent memory.
 ghost use mathlib.Core.Path.{_≡_};
-ghost use Rattle.exploration.specs.Dialogue.{nothing-known, question};
-ghost use Rattle.exploration.specs.Row.{asked-of, opening, opened, reply-of};
+ghost use Rattle.exploration.specs.Row.{asked-of, opening, opened};
 ghost use Rattle.exploration.specs.Worked.{Worked-dialogue};
 use asking::ask_from;
 use asking::reply;
-use attributes::AttributeCount;
 use attributes::AttributeSet;
-use contexts::Implication;
+use attributes::MOST_ATTRIBUTES;
 use row::check_attributes;
 use row::check_row;
 use row::examples_of;
@@ -34,21 +32,21 @@ pub use theorems::nothing_settled_is_asked;
 pub use theorems::same_implications;
 pub use theorems::truth_is_taken;
 
-// Opens a row for an exploration of n attributes that knows nothing, and replies with its first question.
-pub fn open(known: &mut [u64], n: u64) -> Reply
-    ensures reply { λ r. ⌜ r ≡ opening n (now (known .entry)) ⌝ }
+// Opens a row for an exploration of n attributes that knows nothing.
+pub fn open(known: &mut [u64], n: u64) -> Result<(), Refusal>
+    ensures value { λ r. ⌜ r ≡ opening n (now (known .entry)) ⌝ }
     ensures after { λ r. ⌜ now (known .exit) ≡ opened n (now (known .entry)) ⌝ }
 {
     if known.len() < ROW_LENGTH {
-        return Reply::Refused(Refusal::RowTooShort(known.len()));
+        return Err(Refusal::RowTooShort(known.len()));
     }
-    let Some(count) = AttributeCount::new(n) else {
-        return Reply::Refused(Refusal::TooManyAttributes);
-    };
+    if n > MOST_ATTRIBUTES {
+        return Err(Refusal::TooManyAttributes);
+    }
     known[0] = n;
     known[1] = 0;
     known[2] = 0;
-    first_question(count)
+    Ok(())
 }
 
 // What is asked next with what a row knows.
@@ -70,19 +68,6 @@ pub fn question(known: &[u64]) -> Reply
         AttributeSet::empty(),
     );
     reply(asked)
-}
-
-// What is asked when nothing is known.
-fn first_question(n: AttributeCount) -> Reply
-    ensures { λ r. ⌜ r ≡ reply-of (question (n .value) nothing-known) ⌝ }
-{
-    if n.get() == 0 {
-        return Reply::Finished;
-    }
-    Reply::Question(Implication {
-        premise: AttributeSet::empty(),
-        conclusion: AttributeSet::everything(n),
-    })
 }
 
 // The worked dialogue, row by row, as the definitions have it.

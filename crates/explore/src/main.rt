@@ -1,7 +1,9 @@
 // Holds a dialogue over standard input: a byte for the number of attributes, and then the answers.
 use exploration::ROW_LENGTH;
+use exploration::Reply;
 use exploration::ReplyDisplay;
 use exploration::open;
+use exploration::question;
 use std::error::AnyError;
 use std::io::Read;
 
@@ -21,6 +23,10 @@ fn run(rt: &LibcRuntime) -> Result<(), AnyError> {
         return Err("the input is empty: its first byte is the number of attributes".into());
     };
     let mut known = vec![in heap; 0u64; ROW_LENGTH]?;
-    println!(rt, "{}", open(known.as_mut_slice(), u64::from(*n)))?;
+    let reply = match open(known.as_mut_slice(), u64::from(*n)) {
+        Ok(()) => question(known.as_slice()),
+        Err(refusal) => Reply::Refused(refusal),
+    };
+    println!(rt, "{reply}")?;
     Ok(())
 }

@@ -18,8 +18,8 @@ returns c =
     let width : n ≡ attributes-in row = c .in-Ok-n .ensures tt .0 in
     let k : Knowledge = record { confirmed = implications-in n (c .implications-of .result .now); examples = objects-in n (c .examples-of .result .now) } in
     let asked : mapped (implication-at n) (c .ask-from-asked .result) ≡ question (attributes-in row) (known-in row) =
-      c .ask-from-asked .ensures .value ∙ ap (λ (m : ℕ). question-from n k (set-in n m)) (c .empty .ensures) ∙ from-start n k
-      ∙ (λ j. question (width j) (record { confirmed = implications-in (width j) (c .implications-of .ensures j); examples = objects-in (width j) (c .examples-of .ensures j) }))
+    c .ask-from-asked .ensures .value ∙ ap (λ (m : ℕ). question-from n k (set-in n m)) (c .empty .ensures) ∙ from-start n k
+    ∙ (λ j. question (width j) (record { confirmed = implications-in (width j) (c .implications-of .ensures j); examples = objects-in (width j) (c .examples-of .ensures j) }))
     in
     c .reply .ensures ∙ replied n (c .ask-from-asked .result) (question (attributes-in row) (known-in row)) asked (c .ask-from-asked .ensures .bound)
     ∙ asked-when row (c .in-Ok .counts) (sym (c .check-row-counts .ensures) ∙ c .in-Ok .is) (c .in-Ok-n .ensures tt .1)

@@ -19,8 +19,8 @@ returns-in-Some c =
     let premise : Set = set-in n (c .in-Some .premise .bits) in
     record {
       value =
-        ap (λ (s : Set). Some (record { premise = premise; conclusion = s })) (c .common .ensures .value)
-        ∙ ap (mapped (about n k)) (c .in-Some .ensures tt .value);
+          ap (λ (s : Set). Some (record { premise = premise; conclusion = s })) (c .common .ensures .value)
+          ∙ ap (mapped (about n k)) (c .in-Some .ensures tt .value);
       bound = (c .in-Some .ensures tt .bound, c .common .ensures .bound);
     }
 

@@ -23,26 +23,26 @@ pub returns-in-Some-first-not-below : need.returns-in-Some-first-not-below
 returns-in-Some-first-not-below c =
     let row : List ℕ = c .args .known .now in
     few-enough row (Some (c .in-Some-first-not-below .place)) (first-from (2 ^ attributes-in row) 8195 (example-part row)) (few row (c .in-Some .n .value) (c .in-Some .ensures tt) (c .in-Some .n .few))
-      (limited row (c .implications-of .result .now) (implication-part row) (c .in-Some .n .value) (c .limit-limit .result) 3 (c .first-not-below .result) _ (c .in-Some .ensures tt) (c .limit-limit .ensures)
-        (c .implications-of .ensures) (c .first-not-below .ensures) (c .in-Some-first-not-below .is))
-      refl
+    (limited row (c .implications-of .result .now) (implication-part row) (c .in-Some .n .value) (c .limit-limit .result) 3 (c .first-not-below .result) _ (c .in-Some .ensures tt) (c .limit-limit .ensures)
+    (c .implications-of .ensures) (c .first-not-below .ensures) (c .in-Some-first-not-below .is))
+    refl
 
 pub returns-in-Some-first-not-below-2 : need.returns-in-Some-first-not-below-2
 returns-in-Some-first-not-below-2 c =
     let row : List ℕ = c .args .known .now in
     few-enough row None (Some (c .in-Some-first-not-below-2 .place)) (few row (c .in-Some .n .value) (c .in-Some .ensures tt) (c .in-Some .n .few))
-      (limited row (c .implications-of .result .now) (implication-part row) (c .in-Some .n .value) (c .limit-limit .result) 3 (c .first-not-below .result) _ (c .in-Some .ensures tt) (c .limit-limit .ensures)
-        (c .implications-of .ensures) (c .first-not-below .ensures) (c .in-rest-first-not-below .is))
-      (limited row (c .examples-of .result .now) (example-part row) (c .in-Some .n .value) (c .limit-limit .result) 8195 (c .first-not-below-2 .result) _ (c .in-Some .ensures tt) (c .limit-limit .ensures)
-        (c .examples-of .ensures) (c .first-not-below-2 .ensures) (c .in-Some-first-not-below-2 .is))
+    (limited row (c .implications-of .result .now) (implication-part row) (c .in-Some .n .value) (c .limit-limit .result) 3 (c .first-not-below .result) _ (c .in-Some .ensures tt) (c .limit-limit .ensures)
+    (c .implications-of .ensures) (c .first-not-below .ensures) (c .in-rest-first-not-below .is))
+    (limited row (c .examples-of .result .now) (example-part row) (c .in-Some .n .value) (c .limit-limit .result) 8195 (c .first-not-below-2 .result) _ (c .in-Some .ensures tt) (c .limit-limit .ensures)
+    (c .examples-of .ensures) (c .first-not-below-2 .ensures) (c .in-Some-first-not-below-2 .is))
 
 pub returns : need.returns
 returns c =
     let row : List ℕ = c .args .known .now in (
       c .in-Some .ensures tt,
       few-enough row None None (few row (c .in-Some .n .value) (c .in-Some .ensures tt) (c .in-Some .n .few))
-        (limited row (c .implications-of .result .now) (implication-part row) (c .in-Some .n .value) (c .limit-limit .result) 3 (c .first-not-below .result) _ (c .in-Some .ensures tt) (c .limit-limit .ensures)
+          (limited row (c .implications-of .result .now) (implication-part row) (c .in-Some .n .value) (c .limit-limit .result) 3 (c .first-not-below .result) _ (c .in-Some .ensures tt) (c .limit-limit .ensures)
           (c .implications-of .ensures) (c .first-not-below .ensures) (c .in-rest-first-not-below .is))
-        (limited row (c .examples-of .result .now) (example-part row) (c .in-Some .n .value) (c .limit-limit .result) 8195 (c .first-not-below-2 .result) _ (c .in-Some .ensures tt) (c .limit-limit .ensures)
+          (limited row (c .examples-of .result .now) (example-part row) (c .in-Some .n .value) (c .limit-limit .result) 8195 (c .first-not-below-2 .result) _ (c .in-Some .ensures tt) (c .limit-limit .ensures)
           (c .examples-of .ensures) (c .first-not-below-2 .ensures) (c .in-rest-first-not-below-2 .is)),
     )
