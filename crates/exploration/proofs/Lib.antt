@@ -1,3 +1,4 @@
+mod Broken
 mod Ending
 mod Faults
 mod Replies

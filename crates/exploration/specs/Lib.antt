@@ -1,5 +1,6 @@
-pub mod Promise
+pub mod Answers
 pub mod Dialogue
+pub mod Promise
 pub mod Refusals
 pub mod Row
 pub mod Worked

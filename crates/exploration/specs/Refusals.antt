@@ -6,7 +6,7 @@ use Rattle.std.specs.Written.{decimal}
 use Rattle.attributes.specs.Numbers.{set-in}
 use Rattle.attributes.specs.Text.{written}
 use Rattle.exploration.specs.declared.reply.Refusal.{Refusal}
-use Rattle.exploration.specs.declared.reply.Refusal.the-variants.{RowTooShort, TooManyImplications, TooManyExamples, TooManyAttributes, UnknownAttribute}
+use Rattle.exploration.specs.declared.reply.Refusal.the-variants.{RowTooShort, TooManyImplications, TooManyExamples, TooManyAttributes, UnknownAttribute, AnswerCutShort, UnknownKind, UnknownAttributeNamed, AlwaysWithNumber, NothingAsked, NotACounterexample, BreaksConfirmed, NoRoomForImplication, NoRoomForExample}
 use Rattle.exploration.specs.declared.reply.Reply.{Reply}
 use Rattle.exploration.specs.declared.reply.Reply.the-variants.{Question, Finished, Refused}
 
@@ -16,6 +16,15 @@ refusal-number TooManyImplications = 1
 refusal-number TooManyExamples = 1
 refusal-number TooManyAttributes = 2
 refusal-number (UnknownAttribute place) = 2
+refusal-number (AnswerCutShort length) = 3
+refusal-number UnknownKind = 3
+refusal-number UnknownAttributeNamed = 3
+refusal-number AlwaysWithNumber = 3
+refusal-number NothingAsked = 4
+refusal-number (NotACounterexample named) = 5
+refusal-number (BreaksConfirmed place) = 6
+refusal-number NoRoomForImplication = 7
+refusal-number NoRoomForExample = 7
 
 abbrev pub refusal-place : Refusal → ℕ
 refusal-place (RowTooShort length) = length
@@ -23,6 +32,15 @@ refusal-place TooManyImplications = 1
 refusal-place TooManyExamples = 2
 refusal-place TooManyAttributes = 0
 refusal-place (UnknownAttribute place) = place
+refusal-place (AnswerCutShort length) = length
+refusal-place UnknownKind = 0
+refusal-place UnknownAttributeNamed = 1
+refusal-place AlwaysWithNumber = 1
+refusal-place NothingAsked = 0
+refusal-place (NotACounterexample named) = named .bits
+refusal-place (BreaksConfirmed place) = place
+refusal-place NoRoomForImplication = 1
+refusal-place NoRoomForExample = 2
 
 abbrev pub reply-text : Reply → List ℕ
 reply-text (Question q) =

@@ -2,9 +2,10 @@
 -- examples named, room for 4,096 implications of two sets each, and room for 4,096 examples. Definitions only.
 use mathlib.Core.Bool.{cond}
 use mathlib.Core.List.{List, [], _∷_}
-use Prim.Native.Nat.{ℕ, suc, _*_, _^_}
+use Prim.Native.Nat.{ℕ, suc, _*_, _^_, _<_}
 use lib.Dec.{ltb}
 use lib.ListN.{length, getD, take, drop, set}
+use Rattle.std.specs.Options.{Cases, mapped}
 use Rattle.std.specs.declared.option.Option.{Option}
 use Rattle.std.specs.declared.option.Option.the-variants.{Some, None}
 use Rattle.std.specs.declared.result.Result.{Result}
@@ -70,12 +71,19 @@ attribute-fault row = cond (ltb 12 (attributes-in row)) (Some TooManyAttributes)
 abbrev pub row-fault : List ℕ → Option Refusal
 row-fault row = fault-or (checked-row row) (attribute-fault row)
 
--- what is asked, as a reply
-abbrev pub reply-of : Option Implication → Reply
-reply-of None = Finished
-reply-of (Some q) = Question (record { premise = record { bits = number-of (q .premise) }; conclusion = record { bits = number-of (q .conclusion) } })
+-- an implication as the code has it
+abbrev pub pair-of : Implication → Pair
+pair-of q = record { premise = record { bits = number-of (q .premise) }; conclusion = record { bits = number-of (q .conclusion) } }
 
--- the same for a question of the code
+-- a question of the code says nothing beyond n attributes
+abbrev pub Bounded : ℕ → Option Pair → Type 0
+Bounded n asked = Cases asked (Unit {0}) (λ (q : Pair). (q .premise .bits < 2 ^ n) × (q .conclusion .bits < 2 ^ n))
+
+-- what is asked next with what a row knows, as the code has it
+abbrev pub asked-in : List ℕ → Option Pair
+asked-in row = mapped pair-of (question (attributes-in row) (known-in row))
+
+-- what is asked, as a reply
 abbrev pub reply-with : Option Pair → Reply
 reply-with None = Finished
 reply-with (Some q) = Question q
@@ -86,7 +94,7 @@ reply-unless (Some fault) reply = Refused fault
 
 -- the reply to a row: the first refusal that applies, or what is asked next
 abbrev pub asked-of : List ℕ → Reply
-asked-of row = reply-unless (row-fault row) (reply-of (question (attributes-in row) (known-in row)))
+asked-of row = reply-unless (row-fault row) (reply-with (asked-in row))
 
 -- opening a row for n attributes: the first refusal that applies, if one does
 abbrev pub opening : ℕ → List ℕ → Result (Unit {0}) Refusal

@@ -12,6 +12,7 @@ use row::examples_of;
 use row::implications_of;
 use row::refusal_of;
 
+mod answer;
 mod asking;
 mod reply;
 mod row;

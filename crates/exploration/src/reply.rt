@@ -3,6 +3,7 @@ ghost use mathlib.Core.Path.{_≡_};
 ghost use Rattle.std.specs.declared.option.Option.the-variants.{Some};
 ghost use Rattle.exploration.specs.Refusals.{reply-text};
 ghost use Rattle.exploration.specs.Refusals.{refusal-number, refusal-place};
+use attributes::AttributeSet;
 use attributes::AttributeSetDisplay;
 use contexts::Implication;
 use std::fmt;
@@ -20,6 +21,24 @@ pub enum Refusal {
     TooManyAttributes,
     // The number at this place of the row has an attribute that is not there.
     UnknownAttribute(usize),
+    // The answer has this length, and that is too short.
+    AnswerCutShort(usize),
+    // The answer is neither "always" nor an object.
+    UnknownKind,
+    // The object has an attribute that is not there.
+    UnknownAttributeNamed,
+    // The answer is "always" with another number than 0.
+    AlwaysWithNumber,
+    // Nothing is asked any more.
+    NothingAsked,
+    // The object, which is told, does not break the implication asked about.
+    NotACounterexample(AttributeSet),
+    // The object breaks the confirmed implication at this place.
+    BreaksConfirmed(usize),
+    // There is no room for another implication.
+    NoRoomForImplication,
+    // There is no room for another example.
+    NoRoomForExample,
 }
 
 impl Refusal {
@@ -30,6 +49,14 @@ impl Refusal {
         match self {
             Refusal::RowTooShort(_) | Refusal::TooManyImplications | Refusal::TooManyExamples => 1,
             Refusal::TooManyAttributes | Refusal::UnknownAttribute(_) => 2,
+            Refusal::AnswerCutShort(_)
+            | Refusal::UnknownKind
+            | Refusal::UnknownAttributeNamed
+            | Refusal::AlwaysWithNumber => 3,
+            Refusal::NothingAsked => 4,
+            Refusal::NotACounterexample(_) => 5,
+            Refusal::BreaksConfirmed(_) => 6,
+            Refusal::NoRoomForImplication | Refusal::NoRoomForExample => 7,
         }
     }
 
@@ -43,6 +70,15 @@ impl Refusal {
             Refusal::TooManyExamples => 2,
             Refusal::TooManyAttributes => 0,
             Refusal::UnknownAttribute(place) => place as u64,
+            Refusal::AnswerCutShort(length) => length as u64,
+            Refusal::UnknownKind => 0,
+            Refusal::UnknownAttributeNamed => 1,
+            Refusal::AlwaysWithNumber => 1,
+            Refusal::NothingAsked => 0,
+            Refusal::NotACounterexample(object) => object.number(),
+            Refusal::BreaksConfirmed(place) => place as u64,
+            Refusal::NoRoomForImplication => 1,
+            Refusal::NoRoomForExample => 2,
         }
     }
 }

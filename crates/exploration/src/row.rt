@@ -14,7 +14,7 @@ use attributes::AttributeCount;
 pub const ROW_LENGTH: usize = 12291;
 
 // How many implications and examples there is room for.
-pub const ROOM: u64 = 4096;
+pub const ROOM: usize = 4096;
 
 // Where the implications and the examples begin.
 pub const IMPLICATIONS: usize = 3;
@@ -46,10 +46,10 @@ pub fn check_row(known: &[u64]) -> Result<Counts, Refusal>
     if known.len() < ROW_LENGTH {
         return Err(Refusal::RowTooShort(known.len()));
     }
-    if known[1] > ROOM {
+    if known[1] > ROOM as u64 {
         return Err(Refusal::TooManyImplications);
     }
-    if known[2] > ROOM {
+    if known[2] > ROOM as u64 {
         return Err(Refusal::TooManyExamples);
     }
     Ok(Counts {

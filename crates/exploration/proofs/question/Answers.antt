@@ -7,8 +7,8 @@ use Rattle.contexts.specs.Contexts.{Implication}
 use Rattle.contexts.specs.Values.{implication-at, objects-in}
 use Rattle.implications.specs.Values.{implications-in}
 use Rattle.exploration.specs.Dialogue.{Knowledge, question, question-from}
-use Rattle.exploration.specs.Row.{attributes-in, known-in}
-use Rattle.exploration.proofs.Replies.{replied, from-start, asked-when}
+use Rattle.exploration.specs.Row.{attributes-in, known-in, reply-with}
+use Rattle.exploration.proofs.Replies.{paired, from-start, asked-when}
 use Rattle.exploration.proofs.question.Needs as need
 
 pub returns : need.returns
@@ -21,5 +21,5 @@ returns c =
     c .ask-from-asked .ensures .value ∙ ap (λ (m : ℕ). question-from n k (set-in n m)) (c .empty .ensures) ∙ from-start n k
     ∙ (λ j. question (width j) (record { confirmed = implications-in (width j) (c .implications-of .ensures j); examples = objects-in (width j) (c .examples-of .ensures j) }))
     in
-    c .reply .ensures ∙ replied n (c .ask-from-asked .result) (question (attributes-in row) (known-in row)) asked (c .ask-from-asked .ensures .bound)
+    c .reply .ensures ∙ ap reply-with (paired n (c .ask-from-asked .result) (question (attributes-in row) (known-in row)) asked (c .ask-from-asked .ensures .bound))
     ∙ asked-when row (c .in-Ok .counts) (sym (c .check-row-counts .ensures) ∙ c .in-Ok .is) (c .in-Ok-n .ensures tt .1)
