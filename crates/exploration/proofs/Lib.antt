@@ -4,6 +4,7 @@ mod Faults
 mod Replies
 mod Rows
 mod Worked
+mod Written
 pub mod Bounds
 pub mod Finish
 pub mod Least

@@ -1,9 +1,9 @@
 -- Answers as numbers, and what an answer does to a lent row. Definitions only.
 use mathlib.Core.Bool.{cond}
 use mathlib.Core.List.{List, [], _∷_}
-use Prim.Native.Nat.{ℕ, suc, _^_}
+use Prim.Native.Nat.{ℕ, suc, _+_, _*_, _^_, _<_}
 use lib.Dec.{eqb, ltb}
-use lib.ListN.{length, getD}
+use lib.ListN.{length, getD, set}
 use Rattle.std.specs.Options.{mapped}
 use Rattle.std.specs.declared.option.Option.{Option}
 use Rattle.std.specs.declared.option.Option.the-variants.{Some, None}
@@ -55,3 +55,14 @@ abbrev pub judged : ℕ → List Implication → Counts → Option Pair → Give
 judged n confirmed counts None answer = Err NothingAsked
 judged n confirmed counts (Some asked) Always = cond (ltb (counts .implications) 4096) (Ok (Confirm asked)) (Err NoRoomForImplication)
 judged n confirmed counts (Some asked) (Object named) = named-if-room counts (checked-object n confirmed asked named)
+
+-- there is room for what is to be written
+abbrev pub Room-for : Counts → Step → Type 0
+Room-for counts (Confirm q) = counts .implications < 4096
+Room-for counts (Name s) = counts .examples < 4096
+
+-- the row after an answer that was taken: one entry more behind the others, and one count raised
+abbrev pub written : List ℕ → Counts → Step → List ℕ
+written row counts (Confirm q) =
+    set (set (set row (3 + 2 * counts .implications) (q .premise .bits)) (3 + (2 * counts .implications + 1)) (q .conclusion .bits)) 1 (counts .implications + 1)
+written row counts (Name s) = set (set row (8195 + counts .examples) (s .bits)) 2 (counts .examples + 1)

@@ -17,6 +17,7 @@ mod asking;
 mod reply;
 mod row;
 mod theorems;
+mod writing;
 
 pub use reply::Refusal;
 pub use reply::Reply;
