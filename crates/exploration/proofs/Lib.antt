@@ -1,8 +1,10 @@
 mod Broken
 mod Ending
 mod Faults
+mod Next
 mod Replies
 mod Rows
+mod Taken
 mod Worked
 mod Written
 pub mod Bounds

@@ -15,11 +15,14 @@ use Rattle.attributes.specs.declared.set.AttributeSet.{AttributeSet}
 use Rattle.contexts.specs.Contexts.{Implication, respects}
 use Rattle.contexts.specs.Values.{implication-at}
 use Rattle.contexts.specs.declared.implication.Implication.{Implication as Pair}
+use Rattle.exploration.specs.Row.{asked-in, attributes-in, known-in, reply-with, row-fault}
 use Rattle.exploration.specs.declared.row.Counts.{Counts}
 use Rattle.exploration.specs.declared.answer.Answer.{Answer as Given}
 use Rattle.exploration.specs.declared.answer.Answer.the-variants.{Always, Object}
 use Rattle.exploration.specs.declared.reply.Refusal.{Refusal}
 use Rattle.exploration.specs.declared.reply.Refusal.the-variants.{AnswerCutShort, UnknownKind, UnknownAttributeNamed, AlwaysWithNumber, NothingAsked, NotACounterexample, BreaksConfirmed, NoRoomForImplication, NoRoomForExample}
+use Rattle.exploration.specs.declared.reply.Reply.{Reply}
+use Rattle.exploration.specs.declared.reply.Reply.the-variants.{Refused}
 use Rattle.exploration.specs.declared.answer.Step.{Step}
 use Rattle.exploration.specs.declared.answer.Step.the-variants.{Confirm, Name}
 
@@ -66,3 +69,28 @@ abbrev pub written : List ℕ → Counts → Step → List ℕ
 written row counts (Confirm q) =
     set (set (set row (3 + 2 * counts .implications) (q .premise .bits)) (3 + (2 * counts .implications + 1)) (q .conclusion .bits)) 1 (counts .implications + 1)
 written row counts (Name s) = set (set row (8195 + counts .examples) (s .bits)) 2 (counts .examples + 1)
+
+abbrev pub counts-in : List ℕ → Counts
+counts-in row = record { implications = getD row 1 0; examples = getD row 2 0 }
+
+abbrev pub judged-given : List ℕ → Result Given Refusal → Result Step Refusal
+judged-given row (Err refusal) = Err refusal
+judged-given row (Ok answer) = judged (attributes-in row) (known-in row .confirmed) (counts-in row) (asked-in row) answer
+
+abbrev pub unless-fault : Option Refusal → Result Step Refusal → Result Step Refusal
+unless-fault None judgement = judgement
+unless-fault (Some fault) judgement = Err fault
+
+-- what an answer does to a row: the first refusal of all that applies, or what is to be written
+abbrev pub judged-row : List ℕ → List ℕ → Result Step Refusal
+judged-row row answer = unless-fault (row-fault row) (judged-given row (checked-answer (attributes-in row) answer))
+
+-- the row after an answer: a refusal leaves it as it was
+abbrev pub row-after : List ℕ → Result Step Refusal → List ℕ
+row-after row (Err refusal) = row
+row-after row (Ok step) = written row (counts-in row) step
+
+-- the reply to an answer: the refusal, or what is asked next
+abbrev pub reply-after : List ℕ → Result Step Refusal → Reply
+reply-after row (Err refusal) = Refused refusal
+reply-after row (Ok step) = reply-with (asked-in (written row (counts-in row) step))

@@ -9,6 +9,7 @@ use lib.ListN.{length}
 use lib.Pow.{pow-pos}
 use Rattle.std.proofs.shelf.Elements.{has-append-left}
 use Rattle.std.proofs.shelf.Tests.{both-ways, cases-bool, and-parts, and-from, and-right, not-true, not-from-false}
+use Rattle.std.specs.shelf.Lists.{Has}
 use Rattle.std.specs.declared.option.Option.{Option}
 use Rattle.std.specs.declared.option.Option.the-variants.{Some, None}
 use Rattle.attributes.specs.Lectic.{precedes, sets}
@@ -99,13 +100,19 @@ same-tests n p q same = go (first p (sets n)) refl
         in
         sym (first-laws n q .only s at)
 
-pub search-may-begin : Search-may-begin
+-- a search may begin at the set that was open first, once more is confirmed and no more is forced
+pub begin-at : (n : ℕ) (forced less : Set → Set) (is more : List Implication) (p : Set) → ((i : Implication) → Has is i → Has more i) → ((s : Set) → subset (less s) (forced s) ≡ true)
+    → first-open n forced is ≡ Some p → first-open n less more ≡ first-open-from n less more p
 unfolding first-open first-open-from
-search-may-begin n t u is more p w e =
-    let now : Set → Bool = is-open (common n (t ++ u)) (is ++ more) in
-    let before = first-laws n (is-open (common n t) is) .found p e in
+begin-at n forced less is more p add fewer e =
+    let now : Set → Bool = is-open less more in
+    let before = first-laws n (is-open forced is) .found p e in
     same-tests n now (λ s. not (precedes s p) && now s)
-    (λ s wide. elim (cases-bool (precedes s p)) [
-      | inl b ↦ openness-monotone n t u is more s w (before .earlier s wide b) ∙ sym (ap (λ (x : Bool). not x && now s) b)
+      (λ s wide. elim (cases-bool (precedes s p)) [
+        inl b ↦ stays-shut forced less is more s add (fewer s) (before .earlier s wide b) ∙ sym (ap (λ (x : Bool). not x && now s) b)
       | inr b ↦ sym (ap (λ (x : Bool). not x && now s) b)
-    ])
+      ])
+
+pub search-may-begin : Search-may-begin
+search-may-begin n t u is more p w =
+    begin-at n (common n t) (common n (t ++ u)) is (is ++ more) p (λ i m. has-append-left is more i m) (λ s. common-fewer n t (t ++ u) s w (λ o m. has-append-left t u o m))
