@@ -1,6 +1,7 @@
 mod Broken
 mod Ending
 mod Faults
+mod Judged
 mod Next
 mod Replies
 mod Rows

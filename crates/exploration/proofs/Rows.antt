@@ -24,7 +24,7 @@ pub record Counted (row : List ℕ) (counts : Counts) : Type 0 where
   pub few-implications : getD row 1 0 ≤ 4096
   pub few-examples : getD row 2 0 ≤ 4096
 
-no-ok : {A B : Type 0} {x : B} {y : A} → _≡_ {A = Result A B} (Err x) (Ok y) → ⊥
+pub no-ok : {A B : Type 0} {x : B} {y : A} → _≡_ {A = Result A B} (Err x) (Ok y) → ⊥
 no-ok h = let z : _≡_ {A = ℕ} 0 1 = cc in omega arith
 
 pub counted : (row : List ℕ) (counts : Counts) → checked-row row ≡ Ok counts → Counted row counts

@@ -1,5 +1,5 @@
 -- What a row knows after an answer was written to it. Assumes nothing.
-use mathlib.Core.Path.{_≡_, refl, sym, ap, ap₂, _∙_}
+use mathlib.Core.Path.{_≡_, refl, sym, ap, subst, _∙_}
 use mathlib.Core.Bool.{Bool, true, false, cond}
 use mathlib.Core.List.{List, [], _∷_, _++_, append-assoc, map}
 use Prim.Native.Nat.{ℕ, zero, suc, _+_, _*_, _/_, _%_, _≤_, _<_}
@@ -18,7 +18,7 @@ use Rattle.contexts.specs.Contexts.{Context, Implication}
 use Rattle.contexts.specs.Values.{implication-at, objects-in}
 use Rattle.contexts.specs.declared.implication.Implication.{Implication as Pair}
 use Rattle.implications.specs.Values.{implications-in}
-use Rattle.exploration.specs.Answers.{Room-for, counts-in, written}
+use Rattle.exploration.specs.Answers.{Room-for, counts-in, raised, written}
 use Rattle.exploration.specs.Dialogue.{Knowledge}
 use Rattle.exploration.specs.Row.{attributes-in, checked-row, example-part, implication-part, known-in}
 use Rattle.exploration.specs.declared.answer.Step.{Step}
@@ -26,6 +26,7 @@ use Rattle.exploration.specs.declared.answer.Step.the-variants.{Confirm, Name}
 use Rattle.exploration.specs.declared.row.Counts.{Counts}
 use Rattle.exploration.specs.declared.reply.Refusal.{Refusal}
 use Rattle.exploration.specs.declared.reply.Refusal.the-variants.{RowTooShort, TooManyImplications, TooManyExamples}
+use Rattle.exploration.proofs.Rows.{counted}
 
 -- two numbers more are one implication more
 implications-push : (n : ℕ) (xs : List ℕ) (p c : ℕ) → length xs % 2 ≡ 0 → implications-in n (xs ++ p ∷ (c ∷ [])) ≡ implications-in n xs ++ record { premise = set-in n p; conclusion = set-in n c } ∷ []
@@ -140,20 +141,16 @@ checked row a b c =
       (cond (le-ltb 4096 (getD row 1 0) b j) (Err TooManyImplications) (cond (le-ltb 4096 (getD row 2 0) c j) (Err TooManyExamples) (Ok (counts-in row)))))
 
 -- what is written raises one count, leaves the row long enough, and adds to what is known
-abbrev pub raised : Counts → Step → Counts
-raised counts (Confirm q) = record { implications = counts .implications + 1; examples = counts .examples }
-raised counts (Name s) = record { implications = counts .implications; examples = counts .examples + 1 }
-
 abbrev pub learnt-from : ℕ → Knowledge → Step → Knowledge
 learnt-from n known (Confirm q) = record { confirmed = known .confirmed ++ implication-at n q ∷ []; examples = known .examples }
 learnt-from n known (Name s) = record { confirmed = known .confirmed; examples = known .examples ++ set-in n (s .bits) ∷ [] }
 
-pub record After-step (row : List ℕ) (step : Step) : Type 0 where
-  pub width : attributes-in (written row (counts-in row) step) ≡ attributes-in row
-  pub counts : checked-row (written row (counts-in row) step) ≡ Ok (raised (counts-in row) step)
-  pub known : known-in (written row (counts-in row) step) ≡ learnt-from (attributes-in row) (known-in row) step
+record After-step (row : List ℕ) (step : Step) : Type 0 where
+  width : attributes-in (written row (counts-in row) step) ≡ attributes-in row
+  counts : checked-row (written row (counts-in row) step) ≡ Ok (raised (counts-in row) step)
+  known : known-in (written row (counts-in row) step) ≡ learnt-from (attributes-in row) (known-in row) step
 
-pub after-step : (row : List ℕ) (step : Step) → 12291 ≤ length row → getD row 1 0 ≤ 4096 → getD row 2 0 ≤ 4096 → Room-for (counts-in row) step → After-step row step
+after-step : (row : List ℕ) (step : Step) → 12291 ≤ length row → getD row 1 0 ≤ 4096 → getD row 2 0 ≤ 4096 → Room-for (counts-in row) step → After-step row step
 unfolding more put k named-row
 after-step row (Confirm q) long few-is few-os room =
     let p : ℕ = q .premise .bits in
@@ -176,3 +173,19 @@ after-step row (Name s) long few-is few-os room =
         ∙ (λ j. Ok (record { implications = named-at row m long few-is room 1 (omega arith) (λ e. omega arith) j; examples = named-count row m long few-is room j }));
       known = named-known row m long few-is room;
     }
+
+-- the same with the counts that the first check handed on
+pub counts-are : (row : List ℕ) (counts : Counts) → checked-row row ≡ Ok counts → counts ≡ counts-in row
+counts-are row counts e = let h = counted row counts e in λ j. record { implications = h .implications j; examples = h .examples j }
+
+pub record Stepped (row : List ℕ) (counts : Counts) (step : Step) : Type 0 where
+  pub width : attributes-in (written row counts step) ≡ attributes-in row
+  pub counts-then : checked-row (written row counts step) ≡ Ok (raised counts step)
+  pub known : known-in (written row counts step) ≡ learnt-from (attributes-in row) (known-in row) step
+
+pub stepped : (row : List ℕ) (counts : Counts) (step : Step) → checked-row row ≡ Ok counts → Room-for counts step → Stepped row counts step
+stepped row counts step e room =
+    let h = counted row counts e in
+    let same : counts ≡ counts-in row = counts-are row counts e in
+    let after = after-step row step (h .long) (h .few-implications) (h .few-examples) (subst (λ (k : Counts). Room-for k step) same room) in
+    subst (λ (k : Counts). Stepped row k step) (sym same) (record { width = after .width; counts-then = after .counts; known = after .known })

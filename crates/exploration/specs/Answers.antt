@@ -59,10 +59,24 @@ judged n confirmed counts None answer = Err NothingAsked
 judged n confirmed counts (Some asked) Always = cond (ltb (counts .implications) 4096) (Ok (Confirm asked)) (Err NoRoomForImplication)
 judged n confirmed counts (Some asked) (Object named) = named-if-room counts (checked-object n confirmed asked named)
 
+abbrev pub judged-given : ℕ → List Implication → Counts → Option Pair → Result Given Refusal → Result Step Refusal
+judged-given n confirmed counts asked (Err refusal) = Err refusal
+judged-given n confirmed counts asked (Ok answer) = judged n confirmed counts asked answer
+
+-- what is to be written has no attribute that is not there
+abbrev pub Step-bounded : ℕ → Step → Type 0
+Step-bounded n (Confirm q) = (q .premise .bits < 2 ^ n) × (q .conclusion .bits < 2 ^ n)
+Step-bounded n (Name s) = s .bits < 2 ^ n
+
 -- there is room for what is to be written
 abbrev pub Room-for : Counts → Step → Type 0
 Room-for counts (Confirm q) = counts .implications < 4096
 Room-for counts (Name s) = counts .examples < 4096
+
+-- the counts after it
+abbrev pub raised : Counts → Step → Counts
+raised counts (Confirm q) = record { implications = counts .implications + 1; examples = counts .examples }
+raised counts (Name s) = record { implications = counts .implications; examples = counts .examples + 1 }
 
 -- the row after an answer that was taken: one entry more behind the others, and one count raised
 abbrev pub written : List ℕ → Counts → Step → List ℕ
@@ -73,17 +87,15 @@ written row counts (Name s) = set (set row (8195 + counts .examples) (s .bits)) 
 abbrev pub counts-in : List ℕ → Counts
 counts-in row = record { implications = getD row 1 0; examples = getD row 2 0 }
 
-abbrev pub judged-given : List ℕ → Result Given Refusal → Result Step Refusal
-judged-given row (Err refusal) = Err refusal
-judged-given row (Ok answer) = judged (attributes-in row) (known-in row .confirmed) (counts-in row) (asked-in row) answer
-
 abbrev pub unless-fault : Option Refusal → Result Step Refusal → Result Step Refusal
 unless-fault None judgement = judgement
 unless-fault (Some fault) judgement = Err fault
 
 -- what an answer does to a row: the first refusal of all that applies, or what is to be written
 abbrev pub judged-row : List ℕ → List ℕ → Result Step Refusal
-judged-row row answer = unless-fault (row-fault row) (judged-given row (checked-answer (attributes-in row) answer))
+judged-row row answer =
+    unless-fault (row-fault row)
+    (judged-given (attributes-in row) (known-in row .confirmed) (counts-in row) (asked-in row) (checked-answer (attributes-in row) answer))
 
 -- the row after an answer: a refusal leaves it as it was
 abbrev pub row-after : List ℕ → Result Step Refusal → List ℕ
@@ -94,3 +106,8 @@ row-after row (Ok step) = written row (counts-in row) step
 abbrev pub reply-after : List ℕ → Result Step Refusal → Reply
 reply-after row (Err refusal) = Refused refusal
 reply-after row (Ok step) = reply-with (asked-in (written row (counts-in row) step))
+
+-- where the next search begins: at the premise of what was asked
+abbrev pub premise-of : Option Pair → AttributeSet
+premise-of None = record { bits = 0 }
+premise-of (Some q) = q .premise

@@ -3,13 +3,14 @@ ghost use mathlib.Core.Path.{_≡_};
 ghost use mathlib.Core.Bool.{cond};
 ghost use Prim.Native.Nat.{_^_, _<_};
 ghost use lib.Dec.{eqb, ltb};
+ghost use Rattle.std.specs.Options.{okOr};
 ghost use Rattle.std.specs.declared.result.Result.the-variants.{Ok, Err};
 ghost use Rattle.implications.specs.Values.{implications-in};
-ghost use Rattle.exploration.specs.Answers.{checked-answer, checked-object, judged};
+ghost use Rattle.exploration.specs.Answers.{checked-answer, checked-object, judged-given};
 ghost use Rattle.exploration.specs.Row.{Bounded};
 ghost use Rattle.exploration.specs.declared.answer.Step.the-variants.{Confirm, Name};
 ghost use Rattle.exploration.specs.declared.answer.Answer.the-variants.{Always, Object};
-ghost use Rattle.exploration.specs.declared.reply.Refusal.the-variants.{AlwaysWithNumber, NoRoomForExample, NoRoomForImplication, UnknownAttributeNamed};
+ghost use Rattle.exploration.specs.declared.reply.Refusal.the-variants.{AlwaysWithNumber, NoRoomForExample, NoRoomForImplication, NothingAsked, UnknownAttributeNamed};
 use crate::reply::Refusal;
 use crate::row::Counts;
 use crate::row::ROOM;
@@ -69,19 +70,24 @@ fn check_named(n: AttributeCount, number: u64) -> Result<Answer, Refusal>
     Ok(Answer::Object(object))
 }
 
-// What an answer does to what is asked, or the first refusal that applies.
+// What an answer of two numbers does to what is asked, or the first refusal that applies.
 pub fn judge(
     n: AttributeCount,
     confirmed: &[u64],
     counts: Counts,
     asked: Option<Implication>,
-    answer: Answer,
+    answer: &[u64],
 ) -> Result<Step, Refusal>
     requires { ⌜ Bounded (n .value) asked ⌝ }
-    ensures { λ r. ⌜ r ≡ judged (n .value) (implications-in (n .value) (now (confirmed .entry))) counts asked answer ⌝ }
+    ensures value { λ r. ⌜ r ≡ judged-given (n .value) (implications-in (n .value) (now (confirmed .entry))) counts asked (checked-answer (n .value) (now (answer .entry))) ⌝ }
 {
-    let Some(asked) = asked else {
-        return Err(Refusal::NothingAsked);
+    let answer = check_answer(n, answer);
+    let Ok(answer) = answer else {
+        return Err(refusal_of(answer));
+    };
+    let asked = check_question(asked);
+    let Ok(asked) = asked else {
+        return Err(refusal_of(asked));
     };
     match answer {
         Answer::Always => check_room_for_implication(counts, asked),
@@ -93,6 +99,15 @@ pub fn judge(
             check_room_for_example(counts, object)
         }
     }
+}
+
+fn check_question(asked: Option<Implication>) -> Result<Implication, Refusal>
+    ensures { λ r. ⌜ r ≡ okOr asked NothingAsked ⌝ }
+{
+    let Some(asked) = asked else {
+        return Err(Refusal::NothingAsked);
+    };
+    Ok(asked)
 }
 
 fn check_room_for_implication(counts: Counts, asked: Implication) -> Result<Step, Refusal>

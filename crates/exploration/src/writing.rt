@@ -2,7 +2,7 @@
 ghost use mathlib.Core.Path.{_≡_};
 ghost use Prim.Native.Nat.{_+_, _*_, _≤_, _<_};
 ghost use lib.ListN.{length, set};
-ghost use Rattle.exploration.specs.Answers.{Room-for, written};
+ghost use Rattle.exploration.specs.Answers.{Room-for, raised, written};
 ghost use Rattle.exploration.specs.declared.answer.Step.the-variants.{Confirm, Name};
 use crate::answer::Step;
 use crate::row::Counts;
@@ -30,6 +30,23 @@ pub fn apply(known: &mut [u64], counts: Counts, step: Step)
             known[EXAMPLES + counts.examples] = object.number();
             known[2] = counts.examples as u64 + 1;
         }
+    }
+}
+
+// The counts after a step.
+pub fn raised(counts: Counts, step: Step) -> Counts
+    requires { ⌜ Room-for counts step ⌝ }
+    ensures { λ r. ⌜ r ≡ raised counts step ⌝ }
+{
+    match step {
+        Step::Confirm(_) => Counts {
+            implications: counts.implications + 1,
+            examples: counts.examples,
+        },
+        Step::Name(_) => Counts {
+            implications: counts.implications,
+            examples: counts.examples + 1,
+        },
     }
 }
 
