@@ -2,6 +2,7 @@ mod Broken
 mod Ending
 mod Faults
 mod Judged
+mod Judging
 mod Next
 mod Replies
 mod Rows

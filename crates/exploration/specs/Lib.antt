@@ -3,4 +3,5 @@ pub mod Dialogue
 pub mod Promise
 pub mod Refusals
 pub mod Row
+pub mod Standings
 pub mod Worked

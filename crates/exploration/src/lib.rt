@@ -1,21 +1,21 @@
 // Attribute exploration: the dialogue over lent memory.
 ghost use mathlib.Core.Path.{_≡_};
+ghost use Rattle.exploration.specs.Answers.{judged-row, reply-after, row-after};
 ghost use Rattle.exploration.specs.Row.{asked-of, opening, opened};
 ghost use Rattle.exploration.specs.Worked.{Worked-dialogue};
-use asking::ask_from;
+use answer::judge;
 use asking::reply;
-use attributes::AttributeSet;
 use attributes::MOST_ATTRIBUTES;
-use row::check_attributes;
-use row::check_row;
-use row::examples_of;
 use row::implications_of;
 use row::refusal_of;
+use standing::advance;
+use standing::stand;
 
 mod answer;
 mod asking;
 mod reply;
 mod row;
+mod standing;
 mod theorems;
 mod writing;
 
@@ -55,21 +55,28 @@ pub fn open(known: &mut [u64], n: u64) -> Result<(), Refusal>
 pub fn question(known: &[u64]) -> Reply
     ensures { λ r. ⌜ r ≡ asked-of (now (known .entry)) ⌝ }
 {
-    let counts = check_row(known);
-    let Ok(counts) = counts else {
-        return Reply::Refused(refusal_of(counts));
+    let standing = stand(known);
+    let Ok(standing) = standing else {
+        return Reply::Refused(refusal_of(standing));
     };
-    let n = check_attributes(known, counts);
-    let Ok(n) = n else {
-        return Reply::Refused(refusal_of(n));
+    reply(standing.asked)
+}
+
+// Takes an answer to what is asked, or refuses it and leaves the row as it was. Replies with what is asked next.
+pub fn take_answer(known: &mut [u64], answer: &[u64]) -> Reply
+    ensures reply { λ r. ⌜ r ≡ reply-after (now (known .entry)) (judged-row (now (known .entry)) (now (answer .entry))) ⌝ }
+    ensures after { λ _. ⌜ now (known .exit) ≡ row-after (now (known .entry)) (judged-row (now (known .entry)) (now (answer .entry))) ⌝ }
+{
+    let standing = stand(known);
+    let Ok(standing) = standing else {
+        return Reply::Refused(refusal_of(standing));
     };
-    let asked = ask_from(
-        n,
-        implications_of(known, counts),
-        examples_of(known, counts),
-        AttributeSet::empty(),
-    );
-    reply(asked)
+    let confirmed = implications_of(known, standing.counts);
+    let step = judge(standing.n, confirmed, standing.counts, standing.asked, answer);
+    let Ok(step) = step else {
+        return Reply::Refused(refusal_of(step));
+    };
+    reply(advance(known, standing, step))
 }
 
 // The worked dialogue, row by row, as the definitions have it.
