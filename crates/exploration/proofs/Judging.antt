@@ -7,8 +7,8 @@ use Rattle.std.specs.Options.{isSome}
 use Rattle.std.specs.declared.result.Result.{Result}
 use Rattle.std.specs.declared.result.Result.the-variants.{Ok, Err}
 use Rattle.implications.specs.Values.{implications-in}
-use Rattle.exploration.specs.Answers.{Room-for, checked-answer, counts-in, judged-given, judged-row, reply-after, row-after, unless-fault, written}
-use Rattle.exploration.specs.Row.{asked-in, attributes-in, fault-or, implication-part, known-in, reply-with, row-fault}
+use Rattle.exploration.specs.Answers.{Room-for, Step-bounded, checked-answer, counts-in, judged-given, raised, judged-row, reply-after, row-after, unless-fault, written}
+use Rattle.exploration.specs.Row.{Bounded, asked-in, attribute-fault, attributes-in, checked-row, fault-or, implication-part, known-in, reply-with, row-fault}
 use Rattle.exploration.specs.Standings.{Stands}
 use Rattle.exploration.specs.declared.answer.Step.{Step}
 use Rattle.exploration.specs.declared.reply.Refusal.{Refusal}
@@ -17,7 +17,8 @@ use Rattle.exploration.specs.declared.reply.Reply.the-variants.{Refused}
 use Rattle.exploration.specs.declared.row.Counts.{Counts}
 use Rattle.exploration.specs.declared.standing.Standing.{Standing}
 use Rattle.exploration.proofs.Judged.{Taken, judged-taken}
-use Rattle.exploration.proofs.Taken.{counts-are}
+use Rattle.exploration.proofs.Clean.{clean-step}
+use Rattle.exploration.proofs.Taken.{counts-are, stepped}
 
 module _ (row answer part : List ℕ) (standing : Standing) (stands : Stands row standing) (is-part : part ≡ implication-part row) (r : Result Step Refusal)
     (judgement : r ≡ judged-given (standing .n .value) (implications-in (standing .n .value) part) (standing .counts) (standing .asked) (checked-answer (standing .n .value) answer)) where
@@ -45,3 +46,17 @@ module _ (row answer part : List ℕ) (standing : Standing) (stands : Stands row
 
   pub taken-reply : (step : Step) → r ≡ Ok step → reply-with (asked-in (written row (standing .counts) step)) ≡ reply-after row (judged-row row answer)
   taken-reply step e = ap (λ (k : Counts). reply-with (asked-in (written row k step))) (counts-are row (standing .counts) (stands .counts)) ∙ ap (reply-after row) (sym e ∙ judged-is)
+
+  -- and the exploration stands behind it
+  pub stands-then : (step : Step) → r ≡ Ok step → (row₁ : List ℕ) → row₁ ≡ written row (standing .counts) step → (then : Standing) → then .n .value ≡ standing .n .value
+      → then .counts ≡ raised (standing .counts) step → then .asked ≡ asked-in row₁ → Bounded (standing .n .value) (then .asked) → Stands row₁ then
+  stands-then step e row₁ is-row then same-n counts asked bound =
+      let t = judged-taken (standing .n .value) (implications-in (standing .n .value) part) (standing .counts) (standing .asked) answer step (stands .bound) (sym judgement ∙ e) in
+      let after = stepped row (standing .counts) step (stands .counts) (t .room) in
+      record {
+        width = same-n ∙ stands .width ∙ sym (after .width) ∙ sym (ap attributes-in is-row);
+        counts = ap checked-row is-row ∙ after .counts-then ∙ ap Ok (sym counts);
+        clean = ap attribute-fault is-row ∙ clean-step row (standing .counts) step (stands .counts) (t .room) (subst (λ (n : ℕ). Step-bounded n step) (stands .width) (t .bounded)) (stands .clean);
+        asked = asked;
+        bound = subst (λ (n : ℕ). Bounded n (then .asked)) (sym same-n) bound;
+      }

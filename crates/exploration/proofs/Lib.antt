@@ -1,4 +1,5 @@
 mod Broken
+mod Clean
 mod Ending
 mod Faults
 mod Judged

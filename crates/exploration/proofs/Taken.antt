@@ -1,7 +1,7 @@
 -- What a row knows after an answer was written to it. Assumes nothing.
 use mathlib.Core.Path.{_≡_, refl, sym, ap, subst, _∙_}
 use mathlib.Core.Bool.{Bool, true, false, cond}
-use mathlib.Core.List.{List, [], _∷_, _++_, append-assoc, map}
+use mathlib.Core.List.{List, [], _∷_, _++_, append-assoc, append-nil}
 use Prim.Native.Nat.{ℕ, zero, suc, _+_, _*_, _/_, _%_, _≤_, _<_}
 use native.Mathlib.Numerals.{add-one}
 use native.Mathlib.Omega.{arith}
@@ -145,10 +145,21 @@ abbrev pub learnt-from : ℕ → Knowledge → Step → Knowledge
 learnt-from n known (Confirm q) = record { confirmed = known .confirmed ++ implication-at n q ∷ []; examples = known .examples }
 learnt-from n known (Name s) = record { confirmed = known .confirmed; examples = known .examples ++ set-in n (s .bits) ∷ [] }
 
+-- the numbers that are added behind the implications, and behind the examples
+abbrev pub implication-numbers : Step → List ℕ
+implication-numbers (Confirm q) = q .premise .bits ∷ (q .conclusion .bits ∷ [])
+implication-numbers (Name s) = []
+
+abbrev pub example-numbers : Step → List ℕ
+example-numbers (Confirm q) = []
+example-numbers (Name s) = s .bits ∷ []
+
 record After-step (row : List ℕ) (step : Step) : Type 0 where
   width : attributes-in (written row (counts-in row) step) ≡ attributes-in row
   counts : checked-row (written row (counts-in row) step) ≡ Ok (raised (counts-in row) step)
   known : known-in (written row (counts-in row) step) ≡ learnt-from (attributes-in row) (known-in row) step
+  implications : implication-part (written row (counts-in row) step) ≡ implication-part row ++ implication-numbers step
+  examples : example-part (written row (counts-in row) step) ≡ example-part row ++ example-numbers step
 
 after-step : (row : List ℕ) (step : Step) → 12291 ≤ length row → getD row 1 0 ≤ 4096 → getD row 2 0 ≤ 4096 → Room-for (counts-in row) step → After-step row step
 unfolding more put k named-row
@@ -162,6 +173,8 @@ after-step row (Confirm q) long few-is few-os room =
         checked after (omega (arith, length-set (put row p c long room) 1 (getD row 1 0 + 1), put-length row p c long room)) (omega (arith, more-count row p c long room)) (omega (arith, more-at row p c long room 2 (omega arith) (λ e. omega arith)))
         ∙ (λ j. Ok (record { implications = more-count row p c long room j; examples = more-at row p c long room 2 (omega arith) (λ e. omega arith) j }));
       known = more-known row p c long room;
+      implications = more-implications row p c long room;
+      examples = more-examples row p c long room ∙ sym (append-nil (example-part row));
     }
 after-step row (Name s) long few-is few-os room =
     let m : ℕ = s .bits in
@@ -172,6 +185,8 @@ after-step row (Name s) long few-is few-os room =
         checked after (omega (arith, length-set (set row (8195 + getD row 2 0) m) 2 (getD row 2 0 + 1), length-set row (8195 + getD row 2 0) m)) (omega (arith, named-at row m long few-is room 1 (omega arith) (λ e. omega arith))) (omega (arith, named-count row m long few-is room))
         ∙ (λ j. Ok (record { implications = named-at row m long few-is room 1 (omega arith) (λ e. omega arith) j; examples = named-count row m long few-is room j }));
       known = named-known row m long few-is room;
+      implications = named-implications row m long few-is room ∙ sym (append-nil (implication-part row));
+      examples = named-examples row m long few-is room;
     }
 
 -- the same with the counts that the first check handed on
@@ -182,10 +197,12 @@ pub record Stepped (row : List ℕ) (counts : Counts) (step : Step) : Type 0 whe
   pub width : attributes-in (written row counts step) ≡ attributes-in row
   pub counts-then : checked-row (written row counts step) ≡ Ok (raised counts step)
   pub known : known-in (written row counts step) ≡ learnt-from (attributes-in row) (known-in row) step
+  pub implications : implication-part (written row counts step) ≡ implication-part row ++ implication-numbers step
+  pub examples : example-part (written row counts step) ≡ example-part row ++ example-numbers step
 
 pub stepped : (row : List ℕ) (counts : Counts) (step : Step) → checked-row row ≡ Ok counts → Room-for counts step → Stepped row counts step
 stepped row counts step e room =
     let h = counted row counts e in
     let same : counts ≡ counts-in row = counts-are row counts e in
     let after = after-step row step (h .long) (h .few-implications) (h .few-examples) (subst (λ (k : Counts). Room-for k step) same room) in
-    subst (λ (k : Counts). Stepped row k step) (sym same) (record { width = after .width; counts-then = after .counts; known = after .known })
+    subst (λ (k : Counts). Stepped row k step) (sym same) (record { width = after .width; counts-then = after .counts; known = after .known; implications = after .implications; examples = after .examples })

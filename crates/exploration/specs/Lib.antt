@@ -4,4 +4,5 @@ pub mod Promise
 pub mod Refusals
 pub mod Row
 pub mod Standings
+pub mod Turns
 pub mod Worked

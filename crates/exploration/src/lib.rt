@@ -13,6 +13,7 @@ use standing::stand;
 
 mod answer;
 mod asking;
+mod dialogue;
 mod reply;
 mod row;
 mod standing;
