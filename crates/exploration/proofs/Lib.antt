@@ -1,3 +1,4 @@
+mod Along
 mod Broken
 mod Clean
 mod Ending
@@ -5,6 +6,7 @@ mod Faults
 mod Judged
 mod Judging
 mod Next
+mod Opening
 mod Replies
 mod Rows
 mod Taken

@@ -135,7 +135,7 @@ module _ (row : List ℕ) (s : ℕ) (long : 12291 ≤ length row) (few : getD ro
       ∙ ap (λ (t : Context). record { confirmed = known-in row .confirmed; examples = t }) (map-push (set-in (attributes-in row)) (example-part row) s)
 
 -- the counts of a row that is long enough
-checked : (row : List ℕ) → 12291 ≤ length row → getD row 1 0 ≤ 4096 → getD row 2 0 ≤ 4096 → checked-row row ≡ Ok (counts-in row)
+pub checked : (row : List ℕ) → 12291 ≤ length row → getD row 1 0 ≤ 4096 → getD row 2 0 ≤ 4096 → checked-row row ≡ Ok (counts-in row)
 checked row a b c =
     (λ j. cond (le-ltb (length row) 12291 a j) (Err (RowTooShort (length row)))
       (cond (le-ltb 4096 (getD row 1 0) b j) (Err TooManyImplications) (cond (le-ltb 4096 (getD row 2 0) c j) (Err TooManyExamples) (Ok (counts-in row)))))

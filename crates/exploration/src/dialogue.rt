@@ -1,22 +1,61 @@
 // A whole dialogue from nothing known: a list of answers, one search for each.
 ghost use mathlib.Core.Path.{_≡_};
+ghost use mathlib.Core.List.{[]};
+ghost use Prim.Native.Nat.{_+_, _*_, _/_, _%_, _≤_, _<_};
+ghost use lib.ListN.{length, take, drop};
+ghost use Rattle.std.specs.Of.Vec.{vec-cap, vec-items, vec-len};
 ghost use Rattle.exploration.specs.Answers.{judged-row, row-after};
 ghost use Rattle.exploration.specs.Row.{asked-in};
 ghost use Rattle.exploration.specs.Standings.{Stands};
+ghost use Rattle.exploration.specs.Turns.{Dialogue-held, answers-in, listed, row-after-all, turns-of};
 use crate::answer::Step;
 use crate::answer::judge;
+use crate::open;
 use crate::reply::Refusal;
 use crate::row::implications_of;
+use crate::row::refusal_of;
 use crate::standing::Standing;
 use crate::standing::advance;
+use crate::standing::stand;
 use crate::writing::raised;
 use contexts::Implication;
+use std::alloc::Global;
 
 // What was asked before an answer, and what became of the answer.
 #[derive(Clone, Copy)]
 pub struct Turn {
     pub asked: Option<Implication>,
     pub outcome: Result<Step, Refusal>,
+}
+
+// Why a dialogue was not held. The row is then as it was.
+#[derive(Clone, Copy)]
+pub enum NotHeld {
+    Refused(Refusal),
+    OutOfMemory,
+}
+
+// Holds a dialogue from nothing known: opens the row, takes or refuses the answers in turn, and tells what became of each.
+pub fn take_all(
+    heap: Global,
+    known: &mut [u64],
+    n: u64,
+    answers: &[u64],
+) -> Result<Vec<Turn>, NotHeld>
+    ensures { λ r. ⌜ Dialogue-held n (now (known .entry)) (now (answers .entry)) (listed r) (now (known .exit)) ⌝ }
+{
+    let Ok(mut turns) = Vec::with_capacity(heap, answers.len() / 2 + answers.len() % 2) else {
+        return Err(NotHeld::OutOfMemory);
+    };
+    if let Err(refusal) = open(known, n) {
+        return Err(NotHeld::Refused(refusal));
+    }
+    let standing = stand(known);
+    let Ok(standing) = standing else {
+        return Err(NotHeld::Refused(refusal_of(standing)));
+    };
+    hold(known, standing, answers, &mut turns);
+    Ok(turns)
 }
 
 // Takes or refuses one answer from where the dialogue stands, and says where it stands then.
@@ -40,4 +79,32 @@ pub fn take_turn(known: &mut [u64], standing: Standing, answer: &[u64]) -> (Stan
         asked: advance(known, standing, step),
     };
     (then, turn)
+}
+
+// Takes or refuses the answers in turn, and notes what became of each.
+fn hold(known: &mut [u64], standing: Standing, answers: &[u64], turns: &mut Vec<Turn>)
+    requires stands { ⌜ Stands (now known) standing ⌝ }
+    requires empty { ⌜ (vec-len (now turns) ≡ 0) × (vec-items (now turns) ≡ []) ⌝ }
+    requires room { ⌜ length (now answers) / 2 + length (now answers) % 2 ≤ vec-cap (now turns) ⌝ }
+    ensures after { λ _. ⌜ now (known .exit) ≡ row-after-all (now (known .entry)) (answers-in (now (answers .entry))) ⌝ }
+    ensures turns { λ _. ⌜ vec-items (now (turns .exit)) ≡ turns-of (now (known .entry)) (answers-in (now (answers .entry))) ⌝ }
+{
+    let mut standing = standing;
+    for place in 0..answers.len() / 2 + answers.len() % 2 {
+        let (then, turn) = take_turn(known, standing, answer_at(answers, place));
+        turns.push_reserved(turn);
+        standing = then;
+    }
+}
+
+// The answer at a place: two numbers, or the one that is left.
+fn answer_at(answers: &[u64], place: usize) -> &[u64]
+    requires { ⌜ 2 * place < length (now answers) ⌝ }
+    ensures { λ r. ⌜ now r ≡ take 2 (drop (2 * place) (now (answers .entry))) ⌝ }
+{
+    let start = 2 * place;
+    if answers.len() - start < 2 {
+        return &answers[start..];
+    }
+    &answers[start..start + 2]
 }
