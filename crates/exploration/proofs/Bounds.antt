@@ -44,12 +44,15 @@ room n k None a small t f = absurd (both-ways _ refl t)
 room n k (Some q) always small t f = omega (arith, length-push (k .confirmed) q, f .implications)
 room n k (Some q) (object s) small t f = omega (arith, length-push (k .examples) s, f .examples)
 
-pub always-room : Always-room
+-- so there was room for it
+pub room-taken : (n : ℕ) (k : Knowledge) (a : Answer) → n ≤ 12 → Reached n [] k → taken n k (question n k) a ≡ true → Room k a
 unfolding after
-always-room n answers a small t =
-    let k : Knowledge = learnt n answers in
-    let known-then = few n (after n k a) (reached-after n [] k (reached-learnt n answers) a) in
+room-taken n k a small reached t =
+    let known-then = few n (after n k a) (reached-after n [] k reached a) in
     room n k (question n k) a (pow-mono {j = 12} small) t (rw (cond-true (taken n k (question n k) a) (with-answer k (question n k) a) k t) at known-then)
+
+pub always-room : Always-room
+always-room n answers a small t = room-taken n (learnt n answers) a small (reached-learnt n answers) t
 
 pub none-is-spare : None-is-spare
 none-is-spare n answers before behind i e f =

@@ -9,6 +9,7 @@ mod Next
 mod Opening
 mod Replies
 mod Rows
+mod Spoken
 mod Taken
 mod Worked
 mod Written

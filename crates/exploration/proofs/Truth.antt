@@ -58,7 +58,7 @@ module _ (n : ℕ) (yard : Context) (wide : Of-width n yard) where
       and-from (eqb (length s) n) (not (respects s q) && respects-all s (k .confirmed)) (eq-eqb (length s) n (all-has (λ (o : Set). length o ≡ n) yard s wide (t .0)))
       (and-from (not (respects s q)) (respects-all s (k .confirmed)) (not-from-false (respects s q) (t .1)) (object-respects yard (k .confirmed) (fits .hold) s (t .0)))
 
-  after-true : (k : Knowledge) → Fits yard k → (a : Answer) → True-answer yard (question n k) a → after n k a ≡ with-answer k (question n k) a
+  pub after-true : (k : Knowledge) → Fits yard k → (a : Answer) → True-answer yard (question n k) a → after n k a ≡ with-answer k (question n k) a
   unfolding after
   after-true k fits a t = cond-true (taken n k (question n k) a) (with-answer k (question n k) a) k (takes k fits (question n k) a t)
 
@@ -68,7 +68,7 @@ module _ (n : ℕ) (yard : Context) (wide : Of-width n yard) where
   fits-with k fits (Some q) (object s) t =
       record { hold = fits .hold; stand = λ o m. elim (has-push-cases (k .examples) s o m) [ inl h ↦ fits .stand o h | inr e ↦ subst (Has yard) e (t .0) ] }
 
-  fits-after : (k : Knowledge) → Fits yard k → (a : Answer) → True-answer yard (question n k) a → Fits yard (after n k a)
+  pub fits-after : (k : Knowledge) → Fits yard k → (a : Answer) → True-answer yard (question n k) a → Fits yard (after n k a)
   fits-after k fits a t = rw (after-true k fits a t) (fits-with k fits (question n k) a t)
 
   pub fits-all : (k : Knowledge) → Fits yard k → (answers : List Answer) → Truthful n yard k answers → Fits yard (after-all n k answers)

@@ -7,7 +7,7 @@ ghost use Rattle.std.specs.Of.Vec.{vec-cap, vec-items, vec-len};
 ghost use Rattle.exploration.specs.Answers.{judged-row, row-after};
 ghost use Rattle.exploration.specs.Row.{asked-in};
 ghost use Rattle.exploration.specs.Standings.{Stands};
-ghost use Rattle.exploration.specs.Turns.{Dialogue-held, answers-in, listed, row-after-all, turns-of};
+ghost use Rattle.exploration.specs.Turns.{Dialogue-held, Promise-kept, answers-in, listed, row-after-all, turns-of};
 use crate::answer::Step;
 use crate::answer::judge;
 use crate::open;
@@ -35,8 +35,21 @@ pub enum NotHeld {
     OutOfMemory,
 }
 
-// Holds a dialogue from nothing known: opens the row, takes or refuses the answers in turn, and tells what became of each.
+// Holds a dialogue from nothing known: opens the row, takes or refuses the answers in turn, and tells what became of each. If the answers
+// are truthful for some yard, none is refused, and once nothing is asked any more the row knows the least list of that yard.
 pub fn take_all(
+    heap: Global,
+    known: &mut [u64],
+    n: u64,
+    answers: &[u64],
+) -> Result<Vec<Turn>, NotHeld>
+    ensures held { λ r. ⌜ Dialogue-held n (now (known .entry)) (now (answers .entry)) (listed r) (now (known .exit)) ⌝ }
+    ensures promise { λ r. ⌜ Promise-kept n (now (answers .entry)) (listed r) (now (known .exit)) ⌝ }
+{
+    take_in_turn(heap, known, n, answers)
+}
+
+fn take_in_turn(
     heap: Global,
     known: &mut [u64],
     n: u64,
