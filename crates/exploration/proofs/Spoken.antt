@@ -29,7 +29,7 @@ use Rattle.exploration.specs.Answers.{Room-for, Step-bounded, checked-answer, 
 use Rattle.exploration.specs.Dialogue.{Knowledge, Answer, always, object, question, taken, with-answer, after, after-all, True-answer, Truthful, nothing-known}
 use Rattle.exploration.specs.Promise.{Room, Honest, learnt, Explored}
 use Rattle.exploration.specs.Row.{attribute-fault, attributes-in, asked-in, checked-row, example-part, fault-or, implication-part, known-in, opened, opening, pair-of, row-fault}
-use Rattle.exploration.specs.Turns.{Dialogue-held, Kept, Promise-kept, answers-in, code, encoded, row-after-all, turns-of}
+use Rattle.exploration.specs.Turns.{Dialogue-held, Kept, Promise-kept, Told, answers-in, code, encoded, row-after-all, turns-of}
 use Rattle.exploration.specs.declared.answer.Answer.{Answer as Given}
 use Rattle.exploration.specs.declared.answer.Answer.the-variants.{Always, Object}
 use Rattle.exploration.specs.declared.answer.Step.{Step}
@@ -205,15 +205,15 @@ module _ (n : ℕ) (few : n ≤ 12) (yard : Context) (wide : Of-width n yard) wh
       subst (λ (as′ : List (List ℕ)). Left n (after-all n (after n k a) said) (turns-of row as′) (row-after-all row as′)) (sym (first-code a said)) whole
 
 -- the promise on a whole dialogue
-pub promise-kept : (n : ℕ) (row answers : List ℕ) (r : Result (List Turn) NotHeld) (row₁ : List ℕ) → Dialogue-held n row answers r row₁ → Promise-kept n answers r row₁
+pub promise-kept : (n : ℕ) (row answers : List ℕ) (r : Result Told NotHeld) (row₁ : List ℕ) → Dialogue-held n row answers r row₁ → Promise-kept n answers r row₁
 unfolding after-all
 promise-kept n row answers (Err reason) row₁ held = tt
-promise-kept n row answers (Ok turns) row₁ held = λ yard said honest is-said.
-    let o = is-open-row n row (held .0) in
+promise-kept n row answers (Ok all) row₁ held = λ yard said honest is-said.
+    let o = is-open-row n row (held .opens) in
     let start : Ready n (opened n row) nothing-known = record { tally = counts-in (opened n row); counts = o .counts; width = o .width; clean = o .clean; known = o .known } in
     let left = all-said n (o .few) yard (honest .wide) said nothing-known (opened n row) start (reached-learnt n []) (nothing-fits yard) (honest .truthful) in
-    let turns-are : turns ≡ turns-of (opened n row) (answers-in (encoded said)) = held .1 ∙ ap (λ (xs : List ℕ). turns-of (opened n row) (answers-in xs)) is-said in
-    let row-is : row₁ ≡ row-after-all (opened n row) (answers-in (encoded said)) = held .2 ∙ ap (λ (xs : List ℕ). row-after-all (opened n row) (answers-in xs)) is-said in
+    let turns-are : all .turns ≡ turns-of (opened n row) (answers-in (encoded said)) = held .turns ∙ ap (λ (xs : List ℕ). turns-of (opened n row) (answers-in xs)) is-said in
+    let row-is : row₁ ≡ row-after-all (opened n row) (answers-in (encoded said)) = held .left ∙ ap (λ (xs : List ℕ). row-after-all (opened n row) (answers-in xs)) is-said in
     let known-is : known-in row₁ ≡ learnt n said = ap known-in row-is ∙ left .ready .known in
     record {
       taken = subst (All (λ (t : Turn). isOk (t .outcome) ≡ true)) (sym turns-are) (left .taken);

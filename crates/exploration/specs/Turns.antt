@@ -3,6 +3,7 @@ use mathlib.Core.Path.{_≡_}
 use mathlib.Core.Bool.{true}
 use mathlib.Core.List.{List, [], _∷_, _++_}
 use Prim.Native.Nat.{ℕ}
+use Rattle.std.specs.declared.option.Option.{Option}
 use Rattle.std.specs.declared.option.Option.the-variants.{None}
 use Rattle.attributes.specs.Numbers.{number-of}
 use Rattle.contexts.specs.Contexts.{Context}
@@ -12,11 +13,11 @@ use Rattle.exploration.specs.Promise.{Explored, Honest, learnt}
 use Rattle.std.specs.Of.Vec.{vec-items}
 use Rattle.std.specs.Results.{isOk}
 use Rattle.std.specs.shelf.Lists.{All}
-use Rattle.std.specs.declared.alloc.Global.{Global}
 use Rattle.std.specs.declared.result.Result.{Result}
 use Rattle.std.specs.declared.result.Result.the-variants.{Ok, Err}
-use Rattle.std.specs.declared.vec.Vec.{Vec}
 use Rattle.exploration.specs.Row.{asked-in, known-in, opened, opening}
+use Rattle.contexts.specs.declared.implication.Implication.{Implication as Pair}
+use Rattle.exploration.specs.declared.dialogue.Dialogue.{Dialogue}
 use Rattle.exploration.specs.declared.dialogue.NotHeld.{NotHeld}
 use Rattle.exploration.specs.declared.dialogue.NotHeld.the-variants.{Refused, OutOfMemory}
 use Rattle.exploration.specs.declared.dialogue.Turn.{Turn}
@@ -37,15 +38,24 @@ unfoldable pub turns-of : List ℕ → List (List ℕ) → List Turn
 turns-of row [] = []
 turns-of row (answer ∷ answers) = record { asked = asked-in row; outcome = judged-row row answer } ∷ turns-of (row-after row (judged-row row answer)) answers
 
--- the turns that were noted
-abbrev pub listed : Result (Vec Turn Global) NotHeld → Result (List Turn) NotHeld
-listed (Ok turns) = Ok (vec-items turns)
-listed (Err reason) = Err reason
+-- what is told of a dialogue: what became of each answer, and what is asked at the end
+pub record Told : Type 0 where
+  pub turns : List Turn
+  pub asked : Option Pair
+
+abbrev pub told : Result Dialogue NotHeld → Result Told NotHeld
+told (Ok dialogue) = Ok (record { turns = vec-items (dialogue .turns); asked = dialogue .asked })
+told (Err reason) = Err reason
 
 -- a dialogue from nothing known: the row is opened, and then each answer is taken or refused in its turn; or the row is as it was
-abbrev pub Dialogue-held : ℕ → List ℕ → List ℕ → Result (List Turn) NotHeld → List ℕ → Type 0
-Dialogue-held n row answers (Ok turns) row₁ =
-    (opening n row ≡ Ok tt) × (turns ≡ turns-of (opened n row) (answers-in answers)) × (row₁ ≡ row-after-all (opened n row) (answers-in answers))
+pub record Held-all (n : ℕ) (row answers : List ℕ) (all : Told) (row₁ : List ℕ) : Type 0 where
+  pub opens : opening n row ≡ Ok tt
+  pub turns : all .turns ≡ turns-of (opened n row) (answers-in answers)
+  pub left : row₁ ≡ row-after-all (opened n row) (answers-in answers)
+  pub asked : all .asked ≡ asked-in row₁
+
+abbrev pub Dialogue-held : ℕ → List ℕ → List ℕ → Result Told NotHeld → List ℕ → Type 0
+Dialogue-held n row answers (Ok all) row₁ = Held-all n row answers all row₁
 Dialogue-held n row answers (Err (Refused refusal)) row₁ = (opening n row ≡ Err refusal) × (row₁ ≡ row)
 Dialogue-held n row answers (Err OutOfMemory) row₁ = row₁ ≡ row
 
@@ -66,6 +76,6 @@ pub record Kept (n : ℕ) (yard : Context) (said : List Answer) (turns : List Tu
   pub explored : question n (known-in row) ≡ None → Explored n yard (known-in row)
 
 -- the promise for every yard and every truthful list of answers
-abbrev pub Promise-kept : ℕ → List ℕ → Result (List Turn) NotHeld → List ℕ → Type 0
-Promise-kept n answers (Ok turns) row = (yard : Context) (said : List Answer) → Honest n yard said → answers ≡ encoded said → Kept n yard said turns row
+abbrev pub Promise-kept : ℕ → List ℕ → Result Told NotHeld → List ℕ → Type 0
+Promise-kept n answers (Ok all) row = (yard : Context) (said : List Answer) → Honest n yard said → answers ≡ encoded said → Kept n yard said (all .turns) row
 Promise-kept n answers (Err reason) row = Unit {0}

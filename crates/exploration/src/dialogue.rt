@@ -7,7 +7,7 @@ ghost use Rattle.std.specs.Of.Vec.{vec-cap, vec-items, vec-len};
 ghost use Rattle.exploration.specs.Answers.{judged-row, row-after};
 ghost use Rattle.exploration.specs.Row.{asked-in};
 ghost use Rattle.exploration.specs.Standings.{Stands};
-ghost use Rattle.exploration.specs.Turns.{Dialogue-held, Promise-kept, answers-in, listed, row-after-all, turns-of};
+ghost use Rattle.exploration.specs.Turns.{Dialogue-held, Promise-kept, answers-in, row-after-all, told, turns-of};
 use crate::answer::Step;
 use crate::answer::judge;
 use crate::open;
@@ -28,6 +28,13 @@ pub struct Turn {
     pub outcome: Result<Step, Refusal>,
 }
 
+// What became of each answer, and what is asked at the end.
+#[derive(Drop)]
+pub struct Dialogue {
+    pub turns: Vec<Turn>,
+    pub asked: Option<Implication>,
+}
+
 // Why a dialogue was not held. The row is then as it was.
 #[derive(Clone, Copy)]
 pub enum NotHeld {
@@ -42,9 +49,9 @@ pub fn take_all(
     known: &mut [u64],
     n: u64,
     answers: &[u64],
-) -> Result<Vec<Turn>, NotHeld>
-    ensures held { λ r. ⌜ Dialogue-held n (now (known .entry)) (now (answers .entry)) (listed r) (now (known .exit)) ⌝ }
-    ensures promise { λ r. ⌜ Promise-kept n (now (answers .entry)) (listed r) (now (known .exit)) ⌝ }
+) -> Result<Dialogue, NotHeld>
+    ensures held { λ r. ⌜ Dialogue-held n (now (known .entry)) (now (answers .entry)) (told r) (now (known .exit)) ⌝ }
+    ensures promise { λ r. ⌜ Promise-kept n (now (answers .entry)) (told r) (now (known .exit)) ⌝ }
 {
     take_in_turn(heap, known, n, answers)
 }
@@ -54,8 +61,8 @@ fn take_in_turn(
     known: &mut [u64],
     n: u64,
     answers: &[u64],
-) -> Result<Vec<Turn>, NotHeld>
-    ensures { λ r. ⌜ Dialogue-held n (now (known .entry)) (now (answers .entry)) (listed r) (now (known .exit)) ⌝ }
+) -> Result<Dialogue, NotHeld>
+    ensures { λ r. ⌜ Dialogue-held n (now (known .entry)) (now (answers .entry)) (told r) (now (known .exit)) ⌝ }
 {
     let Ok(mut turns) = Vec::with_capacity(heap, answers.len() / 2 + answers.len() % 2) else {
         return Err(NotHeld::OutOfMemory);
@@ -67,8 +74,8 @@ fn take_in_turn(
     let Ok(standing) = standing else {
         return Err(NotHeld::Refused(refusal_of(standing)));
     };
-    hold(known, standing, answers, &mut turns);
-    Ok(turns)
+    let asked = hold(known, standing, answers, &mut turns);
+    Ok(Dialogue { turns, asked })
 }
 
 // Takes or refuses one answer from where the dialogue stands, and says where it stands then.
@@ -94,13 +101,19 @@ pub fn take_turn(known: &mut [u64], standing: Standing, answer: &[u64]) -> (Stan
     (then, turn)
 }
 
-// Takes or refuses the answers in turn, and notes what became of each.
-fn hold(known: &mut [u64], standing: Standing, answers: &[u64], turns: &mut Vec<Turn>)
+// Takes or refuses the answers in turn, notes what became of each, and says what is asked at the end.
+fn hold(
+    known: &mut [u64],
+    standing: Standing,
+    answers: &[u64],
+    turns: &mut Vec<Turn>,
+) -> Option<Implication>
     requires stands { ⌜ Stands (now known) standing ⌝ }
     requires empty { ⌜ (vec-len (now turns) ≡ 0) × (vec-items (now turns) ≡ []) ⌝ }
     requires room { ⌜ length (now answers) / 2 + length (now answers) % 2 ≤ vec-cap (now turns) ⌝ }
     ensures after { λ _. ⌜ now (known .exit) ≡ row-after-all (now (known .entry)) (answers-in (now (answers .entry))) ⌝ }
     ensures turns { λ _. ⌜ vec-items (now (turns .exit)) ≡ turns-of (now (known .entry)) (answers-in (now (answers .entry))) ⌝ }
+    ensures asked { λ r. ⌜ r ≡ asked-in (now (known .exit)) ⌝ }
 {
     let mut standing = standing;
     for place in 0..answers.len() / 2 + answers.len() % 2 {
@@ -108,6 +121,7 @@ fn hold(known: &mut [u64], standing: Standing, answers: &[u64], turns: &mut Vec<
         turns.push_reserved(turn);
         standing = then;
     }
+    standing.asked
 }
 
 // The answer at a place: two numbers, or the one that is left.

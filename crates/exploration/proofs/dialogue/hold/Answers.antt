@@ -22,4 +22,5 @@ returns c =
     record {
       after = held-rows (c .args .known .now) (c .args .answers .now) (c .loop-place .known) (c .loop-place .standing) (vec-items (c .loop-place .turns)) (c .loop-place .place) (omega arith) (c .loop-place .inv .0);
       turns = held-turns (c .args .known .now) (c .args .answers .now) (c .loop-place .known) (c .loop-place .standing) (vec-items (c .loop-place .turns)) (c .loop-place .place) (omega arith) (c .loop-place .inv .0);
+      asked = c .loop-place .inv .0 .stands .asked;
     }
