@@ -1,4 +1,5 @@
 pub mod Answers
+pub mod Bytes
 pub mod Dialogue
 pub mod Promise
 pub mod Refusals

@@ -3,8 +3,12 @@ use mathlib.Core.List.{List, _++_}
 use Prim.Native.Nat.{ℕ}
 use lib.Chars.{codes}
 use Rattle.std.specs.Written.{decimal}
+use Rattle.std.specs.declared.result.Result.{Result}
+use Rattle.std.specs.declared.result.Result.the-variants.{Ok, Err}
 use Rattle.attributes.specs.Numbers.{set-in}
 use Rattle.attributes.specs.Text.{written}
+use Rattle.exploration.specs.declared.answer.Step.{Step}
+use Rattle.exploration.specs.declared.answer.Step.the-variants.{Confirm, Name}
 use Rattle.exploration.specs.declared.reply.Refusal.{Refusal}
 use Rattle.exploration.specs.declared.reply.Refusal.the-variants.{RowTooShort, TooManyImplications, TooManyExamples, TooManyAttributes, UnknownAttribute, AnswerCutShort, UnknownKind, UnknownAttributeNamed, AlwaysWithNumber, NothingAsked, NotACounterexample, BreaksConfirmed, NoRoomForImplication, NoRoomForExample}
 use Rattle.exploration.specs.declared.reply.Reply.{Reply}
@@ -42,8 +46,17 @@ refusal-place (BreaksConfirmed place) = place
 refusal-place NoRoomForImplication = 1
 refusal-place NoRoomForExample = 2
 
+abbrev pub refusal-text : Refusal → List ℕ
+refusal-text r = codes "refused " ++ (decimal (refusal-number r) ++ (codes " at " ++ decimal (refusal-place r)))
+
 abbrev pub reply-text : Reply → List ℕ
 reply-text (Question q) =
     codes "all with " ++ (written (set-in 16 (q .premise .bits)) ++ (codes " have " ++ (written (set-in 16 (q .conclusion .bits)) ++ codes "?")))
 reply-text Finished = codes "finished"
-reply-text (Refused r) = codes "refused " ++ (decimal (refusal-number r) ++ (codes " at " ++ decimal (refusal-place r)))
+reply-text (Refused r) = refusal-text r
+
+-- what became of an answer
+abbrev pub outcome-text : Result Step Refusal → List ℕ
+outcome-text (Ok (Confirm q)) = codes "always"
+outcome-text (Ok (Name s)) = codes "not " ++ written (set-in 16 (s .bits))
+outcome-text (Err refusal) = refusal-text refusal

@@ -13,6 +13,7 @@ use standing::stand;
 
 mod answer;
 mod asking;
+mod bytes;
 mod dialogue;
 mod reply;
 mod row;
@@ -20,7 +21,15 @@ mod standing;
 mod theorems;
 mod writing;
 
+pub use answer::Step;
+pub use bytes::answers_from;
+pub use dialogue::Dialogue;
+pub use dialogue::NotHeld;
+pub use dialogue::Turn;
+pub use dialogue::TurnDisplay;
+pub use dialogue::take_all;
 pub use reply::Refusal;
+pub use reply::RefusalDisplay;
 pub use reply::Reply;
 pub use reply::ReplyDisplay;
 pub use row::ROW_LENGTH;

@@ -1,8 +1,7 @@
 // What the entries reply.
 ghost use mathlib.Core.Path.{_≡_};
 ghost use Rattle.std.specs.declared.option.Option.the-variants.{Some};
-ghost use Rattle.exploration.specs.Refusals.{reply-text};
-ghost use Rattle.exploration.specs.Refusals.{refusal-number, refusal-place};
+ghost use Rattle.exploration.specs.Refusals.{refusal-number, refusal-place, refusal-text, reply-text};
 use attributes::AttributeSet;
 use attributes::AttributeSetDisplay;
 use contexts::Implication;
@@ -83,6 +82,17 @@ impl Refusal {
     }
 }
 
+// The number and the place by which a refusal is told.
+pub impl fmt::Display for Refusal as RefusalDisplay {
+    ghost shown = { λ r. Some (refusal-text r) };
+
+    fn fmt<W: fmt::Write>(&self, f: &mut fmt::Formatter<W>) -> fmt::Result {
+        let number = self.number();
+        let place = self.place();
+        write!(f, "refused {number} at {place}")
+    }
+}
+
 #[derive(Clone, Copy)]
 pub enum Reply {
     // Have all objects with the premise also the conclusion?
@@ -104,11 +114,7 @@ pub impl fmt::Display for Reply as ReplyDisplay {
                 write!(f, "all with {premise} have {conclusion}?")
             }
             Reply::Finished => write!(f, "finished"),
-            Reply::Refused(refusal) => {
-                let number = refusal.number();
-                let place = refusal.place();
-                write!(f, "refused {number} at {place}")
-            }
+            Reply::Refused(refusal) => write!(f, "{refusal}"),
         }
     }
 }
