@@ -48,10 +48,10 @@ module _ (start answers : List ℕ) where
         stands = s;
         rows = ap (λ (x : List ℕ). row-after-all x rest) row-is ∙ sym (ap (row-after-all row) (next-answer answers i l)) ∙ h .rows;
         all =
-          append-assoc turns (turn ∷ []) (turns-of row₁ rest)
-          ∙ (λ j. turns ++ turn-is j ∷ turns-of (row-is j) rest)
-          ∙ sym (ap (λ (as′ : List (List ℕ)). turns ++ turns-of row as′) (next-answer answers i l))
-          ∙ h .all;
+            append-assoc turns (turn ∷ []) (turns-of row₁ rest)
+            ∙ (λ j. turns ++ turn-is j ∷ turns-of (row-is j) rest)
+            ∙ sym (ap (λ (as′ : List (List ℕ)). turns ++ turns-of row as′) (next-answer answers i l))
+            ∙ h .all;
       }
 
   held-end : (i : ℕ) → length answers ≤ 2 * i → answers-in (drop (2 * i) answers) ≡ []

@@ -62,5 +62,5 @@ clean-step row counts step e room b f =
     let after = stepped row counts step e room in
     let n : ℕ = attributes-in row in
     few-enough (written row counts step) None None (omega (arith, after .width, c .few))
-      (sym (none-more (2 ^ n) 3 (implication-part row) (implication-numbers step) (c .implications) (bounded-implication n step b)) ∙ sym (λ j. first-from (2 ^ after .width j) 3 (after .implications j)))
-      (sym (none-more (2 ^ n) 8195 (example-part row) (example-numbers step) (c .examples) (bounded-example n step b)) ∙ sym (λ j. first-from (2 ^ after .width j) 8195 (after .examples j)))
+    (sym (none-more (2 ^ n) 3 (implication-part row) (implication-numbers step) (c .implications) (bounded-implication n step b)) ∙ sym (λ j. first-from (2 ^ after .width j) 3 (after .implications j)))
+    (sym (none-more (2 ^ n) 8195 (example-part row) (example-numbers step) (c .examples) (bounded-example n step b)) ∙ sym (λ j. first-from (2 ^ after .width j) 8195 (after .examples j)))

@@ -47,13 +47,13 @@ next-from : (n : ℕ) (k : Knowledge) (q : Implication) (step : Step) → Of-wid
 unfolding question question-from
 next-from n k q (Confirm i) w e =
     ap (mapped (about n (learnt-from n k (Confirm i))))
-      (begin-at n (common n (k .examples)) (common n (k .examples)) (k .confirmed) (learnt-from n k (Confirm i) .confirmed) (q .premise)
-        (λ j m. has-append-left (k .confirmed) _ j m) (λ s. subset-refl (common n (k .examples) s)) (premise-open n k q e))
+    (begin-at n (common n (k .examples)) (common n (k .examples)) (k .confirmed) (learnt-from n k (Confirm i) .confirmed) (q .premise)
+    (λ j m. has-append-left (k .confirmed) _ j m) (λ s. subset-refl (common n (k .examples) s)) (premise-open n k q e))
 next-from n k q (Name s) w e =
     let t : Context = learnt-from n k (Name s) .examples in
     ap (mapped (about n (learnt-from n k (Name s))))
-      (begin-at n (common n (k .examples)) (common n t) (k .confirmed) (k .confirmed) (q .premise) (λ j m. m)
-        (λ r. common-fewer n (k .examples) t r (all-append _ (k .examples) (set-in n (s .bits) ∷ []) w (length-set-in n (s .bits), tt)) (λ o m. has-append-left (k .examples) _ o m)) (premise-open n k q e))
+    (begin-at n (common n (k .examples)) (common n t) (k .confirmed) (k .confirmed) (q .premise) (λ j m. m)
+    (λ r. common-fewer n (k .examples) t r (all-append _ (k .examples) (set-in n (s .bits) ∷ []) w (length-set-in n (s .bits), tt)) (λ o m. has-append-left (k .examples) _ o m)) (premise-open n k q e))
 
 -- so what is found from there is what is asked next
 pub next-asked : (n : ℕ) (k : Knowledge) (step : Step) (asked found : Option Pair) → Of-width n (k .examples) → asked ≡ mapped pair-of (question n k) → isSome asked ≡ true
@@ -68,4 +68,4 @@ next-asked n k step asked found w e some f b = go (question n k) refl
         let from : premise-of asked .bits ≡ number-of (q .premise) = ap (λ (o : Option Pair). premise-of o .bits) (e ∙ ap (mapped pair-of) h) in
         let back : set-in n (number-of (q .premise)) ≡ q .premise = ap (λ (m : ℕ). set-in m (number-of (q .premise))) (sym wide) ∙ set-in-number-of (q .premise) in
         paired n found (question n (learnt-from n k step))
-          (f ∙ ap (question-from n (learnt-from n k step)) (ap (set-in n) from ∙ back) ∙ sym (next-from n k q step w h)) b
+        (f ∙ ap (question-from n (learnt-from n k step)) (ap (set-in n) from ∙ back) ∙ sym (next-from n k q step w h)) b

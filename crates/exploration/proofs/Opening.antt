@@ -76,13 +76,13 @@ module _ (n : ℕ) (row : List ℕ) (long : 12291 ≤ length row) (few : n ≤ 1
   zero-opened : Opened n (opened n row)
   zero-opened =
       let at : Opened n zero-row =
-        record {
-          width = zero-width;
-          few = few;
-          counts = checked zero-row (omega (arith, zero-length)) (omega (arith, zero-implications)) (omega (arith, zero-examples));
-          clean = zero-clean;
-          known = zero-known;
-        }
+      record {
+        width = zero-width;
+        few = few;
+        counts = checked zero-row (omega (arith, zero-length)) (omega (arith, zero-implications)) (omega (arith, zero-examples));
+        clean = zero-clean;
+        known = zero-known;
+      }
       in
       subst (Opened n) (sym is-opened) at
 

@@ -124,7 +124,7 @@ module _ (n : ℕ) (row : List ℕ) (k : Knowledge) (ready : Ready n row k) (q :
       let object-is : AttributeSet = record { bits = number-of s } in
       judged-asked (object s) (Object object-is) (named s (g .wide))
       ∙ ap (named-if-room (counts-in row))
-        (sym (object-taken n (k .confirmed) (pair-of q) object-is ((λ j. respects (back j) (pair-back n q wide-p wide-c j)) ∙ g .breaks) (ap (λ (x : Set). respects-all x (k .confirmed)) back ∙ g .fits)))
+      (sym (object-taken n (k .confirmed) (pair-of q) object-is ((λ j. respects (back j) (pair-back n q wide-p wide-c j)) ∙ g .breaks) (ap (λ (x : Set). respects-all x (k .confirmed)) back ∙ g .fits)))
       ∙ ap (λ (b : Bool). cond b (Ok (Name object-is)) (Err NoRoomForExample)) (lt-ltb (getD row 2 0) 4096 (omega (arith, count-examples n row k ready)))
 
   step-room : (a : Answer) → Room k a → Room-for (ready .tally) (step-of q a)
@@ -146,16 +146,16 @@ module _ (n : ℕ) (row : List ℕ) (k : Knowledge) (ready : Ready n row k) (q :
       let fits : Room-for (ready .tally) step = step-room a room in
       let after = stepped row (ready .tally) step (ready .counts) fits in
       let row-is : row-after row (judged-row row (code a)) ≡ written row (ready .tally) step =
-        ap (row-after row) (judged-step a t room) ∙ ap (λ (c : Counts). written row c step) (sym (counts-are row (ready .tally) (ready .counts)))
+      ap (row-after row) (judged-step a t room) ∙ ap (λ (c : Counts). written row c step) (sym (counts-are row (ready .tally) (ready .counts)))
       in
       let there : Ready n (written row (ready .tally) step) (with-answer k (Some q) a) =
-        record {
-          tally = _;
-          counts = after .counts-then;
-          width = after .width ∙ ready .width;
-          clean = clean-step row (ready .tally) step (ready .counts) fits (subst (λ (m : ℕ). Step-bounded m step) (sym (ready .width)) (step-bounded a t)) (ready .clean);
-          known = after .known ∙ (λ j. learnt-from (ready .width j) (ready .known j) step) ∙ step-learns a t;
-        }
+      record {
+        tally = _;
+        counts = after .counts-then;
+        width = after .width ∙ ready .width;
+        clean = clean-step row (ready .tally) step (ready .counts) fits (subst (λ (m : ℕ). Step-bounded m step) (sym (ready .width)) (step-bounded a t)) (ready .clean);
+        known = after .known ∙ (λ j. learnt-from (ready .width j) (ready .known j) step) ∙ step-learns a t;
+      }
       in
       subst (λ (r : List ℕ). Ready n r (with-answer k (Some q) a)) (sym row-is) there
 
@@ -188,7 +188,7 @@ module _ (n : ℕ) (few : n ≤ 12) (yard : Context) (wide : Of-width n yard) wh
           record {
             accepted = ap isOk (judged-step n row k ready q e (about .wide) wide-c a is-taken room);
             ready =
-              subst (Ready n (row-after row (judged-row row (code a)))) (sym (after-true n yard wide k fits a t ∙ ap (λ (o : Option Implication). with-answer k o a) e))
+                subst (Ready n (row-after row (judged-row row (code a)))) (sym (after-true n yard wide k fits a t ∙ ap (λ (o : Option Implication). with-answer k o a) e))
                 (ready-step n row k ready q e (about .wide) wide-c a is-taken room);
           }
 
@@ -200,7 +200,7 @@ module _ (n : ℕ) (few : n ≤ 12) (yard : Context) (wide : Of-width n yard) wh
       let here = one k row a ready reached fits (t .0) in
       let later = all-said said (after n k a) (row-after row (judged-row row (code a))) (here .ready) (reached-after n [] k reached a) (fits-after n yard wide k fits a (t .0)) (t .1) in
       let whole : Left n (after-all n (after n k a) said) (turns-of row (code a ∷ answers-in (encoded said))) (row-after-all row (code a ∷ answers-in (encoded said))) =
-        record { taken = (here .accepted, later .taken); ready = later .ready }
+      record { taken = (here .accepted, later .taken); ready = later .ready }
       in
       subst (λ (as′ : List (List ℕ)). Left n (after-all n (after n k a) said) (turns-of row as′) (row-after-all row as′)) (sym (first-code a said)) whole
 

@@ -138,7 +138,7 @@ module _ (row : List ℕ) (s : ℕ) (long : 12291 ≤ length row) (few : getD ro
 pub checked : (row : List ℕ) → 12291 ≤ length row → getD row 1 0 ≤ 4096 → getD row 2 0 ≤ 4096 → checked-row row ≡ Ok (counts-in row)
 checked row a b c =
     (λ j. cond (le-ltb (length row) 12291 a j) (Err (RowTooShort (length row)))
-      (cond (le-ltb 4096 (getD row 1 0) b j) (Err TooManyImplications) (cond (le-ltb 4096 (getD row 2 0) c j) (Err TooManyExamples) (Ok (counts-in row)))))
+    (cond (le-ltb 4096 (getD row 1 0) b j) (Err TooManyImplications) (cond (le-ltb 4096 (getD row 2 0) c j) (Err TooManyExamples) (Ok (counts-in row)))))
 
 -- what is written raises one count, leaves the row long enough, and adds to what is known
 abbrev pub learnt-from : ℕ → Knowledge → Step → Knowledge
@@ -170,8 +170,8 @@ after-step row (Confirm q) long few-is few-os room =
     record {
       width = more-at row p c long room 0 (omega arith) (λ e. omega arith);
       counts =
-        checked after (omega (arith, length-set (put row p c long room) 1 (getD row 1 0 + 1), put-length row p c long room)) (omega (arith, more-count row p c long room)) (omega (arith, more-at row p c long room 2 (omega arith) (λ e. omega arith)))
-        ∙ (λ j. Ok (record { implications = more-count row p c long room j; examples = more-at row p c long room 2 (omega arith) (λ e. omega arith) j }));
+          checked after (omega (arith, length-set (put row p c long room) 1 (getD row 1 0 + 1), put-length row p c long room)) (omega (arith, more-count row p c long room)) (omega (arith, more-at row p c long room 2 (omega arith) (λ e. omega arith)))
+          ∙ (λ j. Ok (record { implications = more-count row p c long room j; examples = more-at row p c long room 2 (omega arith) (λ e. omega arith) j }));
       known = more-known row p c long room;
       implications = more-implications row p c long room;
       examples = more-examples row p c long room ∙ sym (append-nil (example-part row));
@@ -182,8 +182,8 @@ after-step row (Name s) long few-is few-os room =
     record {
       width = named-at row m long few-is room 0 (omega arith) (λ e. omega arith);
       counts =
-        checked after (omega (arith, length-set (set row (8195 + getD row 2 0) m) 2 (getD row 2 0 + 1), length-set row (8195 + getD row 2 0) m)) (omega (arith, named-at row m long few-is room 1 (omega arith) (λ e. omega arith))) (omega (arith, named-count row m long few-is room))
-        ∙ (λ j. Ok (record { implications = named-at row m long few-is room 1 (omega arith) (λ e. omega arith) j; examples = named-count row m long few-is room j }));
+          checked after (omega (arith, length-set (set row (8195 + getD row 2 0) m) 2 (getD row 2 0 + 1), length-set row (8195 + getD row 2 0) m)) (omega (arith, named-at row m long few-is room 1 (omega arith) (λ e. omega arith))) (omega (arith, named-count row m long few-is room))
+          ∙ (λ j. Ok (record { implications = named-at row m long few-is room 1 (omega arith) (λ e. omega arith) j; examples = named-count row m long few-is room j }));
       known = named-known row m long few-is room;
       implications = named-implications row m long few-is room ∙ sym (append-nil (implication-part row));
       examples = named-examples row m long few-is room;

@@ -82,7 +82,13 @@ pub fn take_answer(known: &mut [u64], answer: &[u64]) -> Reply
         return Reply::Refused(refusal_of(standing));
     };
     let confirmed = implications_of(known, standing.counts);
-    let step = judge(standing.n, confirmed, standing.counts, standing.asked, answer);
+    let step = judge(
+        standing.n,
+        confirmed,
+        standing.counts,
+        standing.asked,
+        answer,
+    );
     let Ok(step) = step else {
         return Reply::Refused(refusal_of(step));
     };

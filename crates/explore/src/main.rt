@@ -32,7 +32,12 @@ fn run(rt: &LibcRuntime) -> Result<(), AnyError> {
     };
     let answers = answers_from(heap, bytes)?;
     let mut known = vec![in heap; 0u64; ROW_LENGTH]?;
-    match take_all(heap, known.as_mut_slice(), u64::from(*n), answers.as_slice()) {
+    match take_all(
+        heap,
+        known.as_mut_slice(),
+        u64::from(*n),
+        answers.as_slice(),
+    ) {
         Ok(dialogue) => print_dialogue(rt, &dialogue)?,
         Err(NotHeld::Refused(refusal)) => println!(rt, "{refusal}")?,
         Err(NotHeld::OutOfMemory) => return Err("there is not enough memory".into()),

@@ -108,10 +108,10 @@ begin-at n forced less is more p add fewer e =
     let now : Set → Bool = is-open less more in
     let before = first-laws n (is-open forced is) .found p e in
     same-tests n now (λ s. not (precedes s p) && now s)
-      (λ s wide. elim (cases-bool (precedes s p)) [
-        inl b ↦ stays-shut forced less is more s add (fewer s) (before .earlier s wide b) ∙ sym (ap (λ (x : Bool). not x && now s) b)
+    (λ s wide. elim (cases-bool (precedes s p)) [
+      | inl b ↦ stays-shut forced less is more s add (fewer s) (before .earlier s wide b) ∙ sym (ap (λ (x : Bool). not x && now s) b)
       | inr b ↦ sym (ap (λ (x : Bool). not x && now s) b)
-      ])
+    ])
 
 pub search-may-begin : Search-may-begin
 search-may-begin n t u is more p w =

@@ -16,9 +16,9 @@ loop-byte-again c =
     let number : ℕ = c .read-byte-number .result .0 in
     let rest : List ℕ = numbers-in (c .read-byte-number .result .1) (drop (i + 1) bytes) in (
       ap (λ (xs : List ℕ). xs ++ rest) (c .in-Continue-push .ensures tt .items)
-      ∙ append-assoc done (number ∷ []) rest
-      ∙ ap (λ (xs : List ℕ). done ++ xs) (sym (at-drop-more (numbers-in (c .loop-byte .higher)) bytes i 0 (omega arith) ∙ c .read-byte-number .ensures .number (drop (i + 1) bytes)))
-      ∙ c .loop-byte .inv .0,
+          ∙ append-assoc done (number ∷ []) rest
+          ∙ ap (λ (xs : List ℕ). done ++ xs) (sym (at-drop-more (numbers-in (c .loop-byte .higher)) bytes i 0 (omega arith) ∙ c .read-byte-number .ensures .number (drop (i + 1) bytes)))
+          ∙ c .loop-byte .inv .0,
       c .read-byte-number .ensures .bound,
     )
 

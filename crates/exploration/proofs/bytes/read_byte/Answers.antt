@@ -12,8 +12,8 @@ unfolding numbers-in
 returns-in-None c =
     record {
       number = λ rest.
-        ap (λ (o : Option ℕ). numbers-in o (c .args .byte ∷ rest)) (c .in-None .is)
-        ∙ ap (λ (b : ℕ). b % 16 ∷ numbers-in (Some (b / 16)) rest) (sym (c .from-byte .ensures));
+          ap (λ (o : Option ℕ). numbers-in o (c .args .byte ∷ rest)) (c .in-None .is)
+          ∙ ap (λ (b : ℕ). b % 16 ∷ numbers-in (Some (b / 16)) rest) (sym (c .from-byte .ensures));
       bound = omega (arith, c .from-byte .ensures, c .fits .byte .fits);
     }
 
@@ -22,7 +22,7 @@ unfolding numbers-in
 returns-in-Some c =
     record {
       number = λ rest.
-        ap (λ (o : Option ℕ). numbers-in o (c .args .byte ∷ rest)) (c .in-Some .is)
-        ∙ ap (λ (b : ℕ). (256 * c .in-Some .high + b) ∷ numbers-in None rest) (sym (c .from-byte .ensures));
+          ap (λ (o : Option ℕ). numbers-in o (c .args .byte ∷ rest)) (c .in-Some .is)
+          ∙ ap (λ (b : ℕ). (256 * c .in-Some .high + b) ∷ numbers-in None rest) (sym (c .from-byte .ensures));
       bound = tt;
     }

@@ -10,7 +10,7 @@ use Rattle.exploration.proofs.dialogue.hold.Needs as need
 pub loop-place-again : need.loop-place-again
 loop-place-again c = (
   subst (λ (ts : List Turn). Held (c .args .known .now) (c .args .answers .now) (c .take-turn .last .known) (c .take-turn .result .0) ts (c .loop-place .place + 1)) (sym (c .push-reserved .ensures .items))
-    (held-more (c .args .known .now) (c .args .answers .now) (c .loop-place .known) (c .loop-place .standing) (vec-items (c .loop-place .turns)) (c .loop-place .place) (omega arith) (c .loop-place .inv .0)
+      (held-more (c .args .known .now) (c .args .answers .now) (c .loop-place .known) (c .loop-place .standing) (vec-items (c .loop-place .turns)) (c .loop-place .place) (omega arith) (c .loop-place .inv .0)
       (c .take-turn .last .known) (c .answer-at .result .now) (c .take-turn .result .0) (c .take-turn .result .1) (c .answer-at .ensures) (c .take-turn .ensures .after) (c .take-turn .ensures .stands)
       (c .take-turn .ensures .asked) (c .take-turn .ensures .outcome)),
   omega (arith, c .push-reserved .ensures .len, c .loop-place .inv .1),

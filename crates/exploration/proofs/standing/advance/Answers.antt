@@ -42,17 +42,17 @@ returns c =
     let known-then : known-in (c .apply .last .known) ≡ learnt = ap known-in (c .apply .ensures) ∙ then .known in
     let at : n ≡ attributes-in (c .apply .last .known) = width ∙ sym width-then in
     let known : _≡_ {A = Knowledge} (record { confirmed = implications-in n (c .implications-of .result .now); examples = objects-in n (c .examples-of .result .now) }) learnt =
-      (λ j. record { confirmed = implications-in (at j) (c .implications-of .ensures j); examples = objects-in (at j) (c .examples-of .ensures j) }) ∙ known-then
+    (λ j. record { confirmed = implications-in (at j) (c .implications-of .ensures j); examples = objects-in (at j) (c .examples-of .ensures j) }) ∙ known-then
     in
     let from : c .premise-of .result .bits ≡ premise-of (c .args .standing .asked) .bits = ap (λ (s : AttributeSet). s .bits) (c .premise-of .ensures) in
     let value : mapped (implication-at n₀) (c .ask-from .result) ≡ question-from n₀ learnt (set-in n₀ (premise-of (c .args .standing .asked) .bits)) =
-      ap (λ (m : ℕ). mapped (implication-at m) (c .ask-from .result)) (sym width) ∙ c .ask-from .ensures .value ∙ (λ j. question-from (width j) (known j) (set-in (width j) (from j)))
+    ap (λ (m : ℕ). mapped (implication-at m) (c .ask-from .result)) (sym width) ∙ c .ask-from .ensures .value ∙ (λ j. question-from (width j) (known j) (set-in (width j) (from j)))
     in
     record {
       after = c .apply .ensures;
       asked =
-        next-asked n₀ (known-in row) step (c .args .standing .asked) (c .ask-from .result) (objects-width n₀ (example-part row)) (c .pre .stands .asked) (c .pre .some) value
+          next-asked n₀ (known-in row) step (c .args .standing .asked) (c .ask-from .result) (objects-width n₀ (example-part row)) (c .pre .stands .asked) (c .pre .some) value
           (subst (λ (m : ℕ). Bounded m (c .ask-from .result)) width (c .ask-from .ensures .bound))
-        ∙ (λ j. mapped pair-of (question (sym width-then j) (sym known-then j)));
+          ∙ (λ j. mapped pair-of (question (sym width-then j) (sym known-then j)));
       bound = c .ask-from .ensures .bound;
     }

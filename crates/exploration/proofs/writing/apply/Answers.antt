@@ -16,5 +16,5 @@ returns-in-Confirm c =
     let room : k < 4096 = subst (Room-for (c .args .counts)) (c .in-Confirm .is) (c .pre .room) in
     ap (λ (part : List ℕ). set (putMid 3 8192 row part) 1 (k + 1)) (c .put-implication .ensures)
     ∙ ap (λ (t : List ℕ). set t 1 (k + 1))
-      (put-two 3 8192 row (2 * k) (2 * k + 1) (c .in-Confirm .implication .premise .bits) (c .in-Confirm .implication .conclusion .bits) (omega (arith, c .pre .long)) (omega arith) (omega arith))
+    (put-two 3 8192 row (2 * k) (2 * k + 1) (c .in-Confirm .implication .premise .bits) (c .in-Confirm .implication .conclusion .bits) (omega (arith, c .pre .long)) (omega arith) (omega arith))
     ∙ ap (written row (c .args .counts)) (sym (c .in-Confirm .is))
