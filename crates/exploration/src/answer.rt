@@ -39,7 +39,7 @@ pub enum Step {
 }
 
 // Reads an answer of two numbers: 0 and 0 for always, or 1 and the object.
-pub fn check_answer(n: AttributeCount, answer: &[u64]) -> Result<Answer, Refusal>
+pub(crate) fn check_answer(n: AttributeCount, answer: &[u64]) -> Result<Answer, Refusal>
     ensures { λ r. ⌜ r ≡ checked-answer (n .value) (now (answer .entry)) ⌝ }
 {
     let [kind, number, ..] = answer else {
@@ -71,7 +71,7 @@ fn check_named(n: AttributeCount, number: u64) -> Result<Answer, Refusal>
 }
 
 // What an answer of two numbers does to what is asked, or the first refusal that applies.
-pub fn judge(
+pub(crate) fn judge(
     n: AttributeCount,
     confirmed: &[u64],
     counts: Counts,

@@ -18,7 +18,7 @@ use premises::ExamplesForce;
 use premises::first_open_from;
 
 // The question about the first open set that does not precede `from`.
-pub fn ask_from(
+pub(crate) fn ask_from(
     n: AttributeCount,
     confirmed: &[u64],
     examples: &[u64],
@@ -37,7 +37,7 @@ pub fn ask_from(
     }
 }
 
-pub fn reply(asked: Option<Implication>) -> Reply
+pub(crate) fn reply(asked: Option<Implication>) -> Reply
     ensures { λ r. ⌜ r ≡ reply-with asked ⌝ }
 {
     match asked {
@@ -47,7 +47,7 @@ pub fn reply(asked: Option<Implication>) -> Reply
 }
 
 // Where the next search begins: no set before the premise of what was asked is open.
-pub fn premise_of(asked: Option<Implication>) -> AttributeSet
+pub(crate) fn premise_of(asked: Option<Implication>) -> AttributeSet
     ensures { λ r. ⌜ r ≡ premise-of asked ⌝ }
 {
     match asked {

@@ -97,7 +97,7 @@ fn take_in_turn(
 }
 
 // Takes or refuses one answer from where the dialogue stands, and says where it stands then.
-pub fn take_turn(known: &mut [u64], standing: Standing, answer: &[u64]) -> (Standing, Turn)
+pub(crate) fn take_turn(known: &mut [u64], standing: Standing, answer: &[u64]) -> (Standing, Turn)
     requires { ⌜ Stands (now known) standing ⌝ }
     ensures after { λ _. ⌜ now (known .exit) ≡ row-after (now (known .entry)) (judged-row (now (known .entry)) (now (answer .entry))) ⌝ }
     ensures stands { λ r. ⌜ Stands (now (known .exit)) (r .0) ⌝ }

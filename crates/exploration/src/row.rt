@@ -29,7 +29,7 @@ pub struct Counts {
 }
 
 // Takes the refusal from a check that has one.
-pub fn refusal_of<T: Copy>(checked: Result<T, Refusal>) -> Refusal
+pub(crate) fn refusal_of<T: Copy>(checked: Result<T, Refusal>) -> Refusal
     requires { ⌜ isErr checked ≡ true ⌝ }
     ensures { λ r. ⌜ checked ≡ Err r ⌝ }
 {
@@ -40,7 +40,7 @@ pub fn refusal_of<T: Copy>(checked: Result<T, Refusal>) -> Refusal
 }
 
 // The counts of a row, if it is long enough and has room for them.
-pub fn check_row(known: &[u64]) -> Result<Counts, Refusal>
+pub(crate) fn check_row(known: &[u64]) -> Result<Counts, Refusal>
     ensures { λ r. ⌜ r ≡ checked-row (now (known .entry)) ⌝ }
 {
     if known.len() < ROW_LENGTH {
@@ -59,7 +59,7 @@ pub fn check_row(known: &[u64]) -> Result<Counts, Refusal>
 }
 
 // The numbers of the implications, two for each.
-pub fn implications_of(known: &[u64], counts: Counts) -> &[u64]
+pub(crate) fn implications_of(known: &[u64], counts: Counts) -> &[u64]
     requires { ⌜ checked-row (now known) ≡ Ok counts ⌝ }
     ensures { λ r. ⌜ now r ≡ implication-part (now (known .entry)) ⌝ }
 {
@@ -67,7 +67,7 @@ pub fn implications_of(known: &[u64], counts: Counts) -> &[u64]
 }
 
 // The numbers of the examples.
-pub fn examples_of(known: &[u64], counts: Counts) -> &[u64]
+pub(crate) fn examples_of(known: &[u64], counts: Counts) -> &[u64]
     requires { ⌜ checked-row (now known) ≡ Ok counts ⌝ }
     ensures { λ r. ⌜ now r ≡ example-part (now (known .entry)) ⌝ }
 {
@@ -75,7 +75,7 @@ pub fn examples_of(known: &[u64], counts: Counts) -> &[u64]
 }
 
 // How many attributes there are, if no number of the row has one that is not there.
-pub fn check_attributes(known: &[u64], counts: Counts) -> Result<AttributeCount, Refusal>
+pub(crate) fn check_attributes(known: &[u64], counts: Counts) -> Result<AttributeCount, Refusal>
     requires { ⌜ checked-row (now known) ≡ Ok counts ⌝ }
     ensures { λ r. ⌜ Cases r (λ n. (n .value ≡ attributes-in (now (known .entry))) × (attribute-fault (now (known .entry)) ≡ None)) (λ fault. attribute-fault (now (known .entry)) ≡ Some fault) ⌝ }
 {

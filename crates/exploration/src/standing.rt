@@ -31,7 +31,7 @@ pub struct Standing {
 }
 
 // Checks a row and finds what is asked, by a search from the start.
-pub fn stand(known: &[u64]) -> Result<Standing, Refusal>
+pub(crate) fn stand(known: &[u64]) -> Result<Standing, Refusal>
     ensures { λ r. ⌜ Cases r (Stands (now (known .entry))) (λ fault. row-fault (now (known .entry)) ≡ Some fault) ⌝ }
 {
     let counts = check_row(known);
@@ -52,7 +52,7 @@ pub fn stand(known: &[u64]) -> Result<Standing, Refusal>
 }
 
 // Writes what an answer does, and finds what is asked next, by a search from the premise just asked about.
-pub fn advance(known: &mut [u64], standing: Standing, step: Step) -> Option<Implication>
+pub(crate) fn advance(known: &mut [u64], standing: Standing, step: Step) -> Option<Implication>
     requires stands { ⌜ Stands (now known) standing ⌝ }
     requires some { ⌜ isSome (standing .asked) ≡ true ⌝ }
     requires room { ⌜ Room-for (standing .counts) step ⌝ }

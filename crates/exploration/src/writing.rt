@@ -12,7 +12,7 @@ use attributes::AttributeSet;
 use contexts::Implication;
 
 // One entry more behind the others, and one count raised.
-pub fn apply(known: &mut [u64], counts: Counts, step: Step)
+pub(crate) fn apply(known: &mut [u64], counts: Counts, step: Step)
     requires long { ⌜ 12291 ≤ length (now known) ⌝ }
     requires room { ⌜ Room-for counts step ⌝ }
     ensures { λ _. ⌜ now (known .exit) ≡ written (now (known .entry)) counts step ⌝ }
@@ -34,7 +34,7 @@ pub fn apply(known: &mut [u64], counts: Counts, step: Step)
 }
 
 // The counts after a step.
-pub fn raised(counts: Counts, step: Step) -> Counts
+pub(crate) fn raised(counts: Counts, step: Step) -> Counts
     requires { ⌜ Room-for counts step ⌝ }
     ensures { λ r. ⌜ r ≡ raised counts step ⌝ }
 {

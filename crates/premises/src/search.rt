@@ -55,7 +55,7 @@ impl<F: Forces> Search<'_, '_, F> {
     }
 
     // The first open set that agrees with s below an attribute and contains s. What does not respect the implications is not visited.
-    pub fn first_in_branch(
+    pub(crate) fn first_in_branch(
         &self,
         attribute: u8,
         s: AttributeSet,
