@@ -1,11 +1,13 @@
 -- The first confirmed implication that an object breaks. Assumes nothing.
 use mathlib.Core.Path.{_≡_, refl, sym, ap, _∙_}
-use mathlib.Core.Bool.{Bool, true, false, cond}
+use mathlib.Core.Bool.{Bool, true, false, cond, _&&_}
+use mathlib.Core.Logic.{_⊎_, inl, inr}
 use mathlib.Core.List.{List, [], _∷_}
 use Prim.Native.Nat.{ℕ, zero, suc}
 use native.Mathlib.Omega.{arith}
-use Rattle.std.proofs.shelf.Tests.{and-parts}
+use Rattle.std.proofs.shelf.Tests.{and-parts, true≢false}
 use Rattle.std.specs.Options.{mapped}
+use Rattle.std.specs.Results.{isOk}
 use Rattle.std.specs.declared.option.Option.{Option}
 use Rattle.std.specs.declared.option.Option.the-variants.{Some, None}
 use Rattle.std.specs.declared.result.Result.{Result}
@@ -48,3 +50,26 @@ module _ (n : ℕ) (is : List Implication) (asked : Pair) (named : AttributeSet)
 
   pub object-taken : respects-all (set-in n (named .bits)) is ≡ true → Ok named ≡ checked-object n is asked named
   object-taken h = sym (by-broken None (first-broken-none (set-in n (named .bits)) is h))
+
+-- an object that breaks some confirmed implication is not taken
+some-broken : (s : Set) (is : List Implication) → respects-all s is ≡ false → (k : ℕ) × (first-broken s is ≡ Some k)
+unfolding first-broken respects-all
+some-broken s [] h = absurd (true≢false h)
+some-broken s (i ∷ is) h = go (respects s i) (some-broken s is) h
+  where
+    go : (b : Bool) → (respects-all s is ≡ false → (k : ℕ) × (first-broken s is ≡ Some k)) → (b && respects-all s is) ≡ false
+        → (k : ℕ) × (cond b (mapped suc (first-broken s is)) (Some 0) ≡ Some k)
+    go true later e = let f = later e in (suc (f .0), ap (mapped suc) (f .1))
+    go false later e = (0, refl)
+
+pub object-not-taken : (n : ℕ) (is : List Implication) (asked : Pair) (named : AttributeSet)
+    → (respects (set-in n (named .bits)) (implication-at n asked) ≡ true) ⊎ (respects-all (set-in n (named .bits)) is ≡ false) → isOk (checked-object n is asked named) ≡ false
+object-not-taken n is asked named (inl h) = ap (λ (x : Bool). isOk (cond x (Err (NotACounterexample named)) (unless-broken named (first-broken (set-in n (named .bits)) is)))) h
+object-not-taken n is asked named (inr h) =
+    let f = some-broken (set-in n (named .bits)) is h in
+    ap (λ (o : Option ℕ). isOk (cond (respects (set-in n (named .bits)) (implication-at n asked)) (Err (NotACounterexample named)) (unless-broken named o))) (f .1)
+    ∙ go (f .0) (respects (set-in n (named .bits)) (implication-at n asked))
+  where
+    go : (k : ℕ) (b : Bool) → isOk {T = AttributeSet} (cond b (Err (NotACounterexample named)) (Err (BreaksConfirmed k))) ≡ false
+    go k true = refl
+    go k false = refl

@@ -1,6 +1,7 @@
 mod Along
 mod Broken
 mod Clean
+mod Defined
 mod Ending
 mod Faults
 mod Judged

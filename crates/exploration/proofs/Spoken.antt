@@ -62,11 +62,15 @@ pub record Ready (n : ℕ) (row : List ℕ) (k : Knowledge) : Type 0 where
 set-back : (n : ℕ) (s : Set) → length s ≡ n → set-in n (number-of s) ≡ s
 set-back n s e = ap (λ (m : ℕ). set-in m (number-of s)) (sym e) ∙ set-in-number-of s
 
-pair-back : (n : ℕ) (q : Implication) → length (q .premise) ≡ n → length (q .conclusion) ≡ n → implication-at n (pair-of q) ≡ q
+pub pair-back : (n : ℕ) (q : Implication) → length (q .premise) ≡ n → length (q .conclusion) ≡ n → implication-at n (pair-of q) ≡ q
 pair-back n q a b = λ j. record { premise = set-back n (q .premise) a j; conclusion = set-back n (q .conclusion) b j }
 
 below : (n : ℕ) (s : Set) → length s ≡ n → number-of s < 2 ^ n
 below n s e = subst (λ (m : ℕ). number-of s < 2 ^ m) e (number-of-below s)
+
+-- an object's own numbers are read back
+pub coded : (n : ℕ) (s : Set) → length s ≡ n → checked-answer n (code (object s)) ≡ Ok (Object (record { bits = number-of s }))
+coded n s w = ap (λ (b : Bool). cond b (Ok (Object (record { bits = number-of s }))) (Err UnknownAttributeNamed)) (lt-ltb (number-of s) (2 ^ n) (below n s w))
 
 -- the counts of a row are those of what it knows
 module _ (n : ℕ) (row : List ℕ) (k : Knowledge) (ready : Ready n row k) where
@@ -83,7 +87,7 @@ module _ (n : ℕ) (row : List ℕ) (k : Knowledge) (ready : Ready n row k) wher
       omega (arith, length-map (example-part row) (set-in (attributes-in row)), ap (λ (x : Knowledge). length (x .examples)) (ready .known))
 
   -- what is judged about it is judged about what it knows
-  judged-known : (a : List ℕ) → judged-row row a ≡ judged-given n (k .confirmed) (counts-in row) (mapped pair-of (question n k)) (checked-answer n a)
+  pub judged-known : (a : List ℕ) → judged-row row a ≡ judged-given n (k .confirmed) (counts-in row) (mapped pair-of (question n k)) (checked-answer n a)
   judged-known a =
       (λ j. unless-fault (fault-or (ready .counts j) (ready .clean j)) (judged-given (attributes-in row) (known-in row .confirmed) (counts-in row) (asked-in row) (checked-answer (attributes-in row) a)))
       ∙ (λ j. judged-given (ready .width j) (ready .known j .confirmed) (counts-in row) (mapped pair-of (question (ready .width j) (ready .known j))) (checked-answer (ready .width j) a))
@@ -111,10 +115,7 @@ module _ (n : ℕ) (row : List ℕ) (k : Knowledge) (ready : Ready n row k) (q :
       judged-known n row k ready (code a)
       ∙ (λ j. judged-given n (k .confirmed) (counts-in row) (mapped pair-of (asked j)) (e j))
 
-  named : (s : Set) → length s ≡ n → checked-answer n (code (object s)) ≡ Ok (Object (record { bits = number-of s }))
-  named s w = ap (λ (b : Bool). cond b (Ok (Object (record { bits = number-of s }))) (Err UnknownAttributeNamed)) (lt-ltb (number-of s) (2 ^ n) (below n s w))
-
-  judged-step : (a : Answer) → taken n k (Some q) a ≡ true → Room k a → judged-row row (code a) ≡ Ok (step-of q a)
+  pub judged-step : (a : Answer) → taken n k (Some q) a ≡ true → Room k a → judged-row row (code a) ≡ Ok (step-of q a)
   judged-step always t room =
       judged-asked always Always refl
       ∙ ap (λ (b : Bool). cond b (Ok (Confirm (pair-of q))) (Err NoRoomForImplication)) (lt-ltb (getD row 1 0) 4096 (omega (arith, count-implications n row k ready)))
@@ -122,7 +123,7 @@ module _ (n : ℕ) (row : List ℕ) (k : Knowledge) (ready : Ready n row k) (q :
       let g = good n k q s t in
       let back : set-in n (number-of s) ≡ s = set-back n s (g .wide) in
       let object-is : AttributeSet = record { bits = number-of s } in
-      judged-asked (object s) (Object object-is) (named s (g .wide))
+      judged-asked (object s) (Object object-is) (coded n s (g .wide))
       ∙ ap (named-if-room (counts-in row))
       (sym (object-taken n (k .confirmed) (pair-of q) object-is ((λ j. respects (back j) (pair-back n q wide-p wide-c j)) ∙ g .breaks) (ap (λ (x : Set). respects-all x (k .confirmed)) back ∙ g .fits)))
       ∙ ap (λ (b : Bool). cond b (Ok (Name object-is)) (Err NoRoomForExample)) (lt-ltb (getD row 2 0) 4096 (omega (arith, count-examples n row k ready)))
@@ -140,7 +141,7 @@ module _ (n : ℕ) (row : List ℕ) (k : Knowledge) (ready : Ready n row k) (q :
   step-learns (object s) t = ap (λ (x : Set). record { confirmed = k .confirmed; examples = k .examples ++ x ∷ [] }) (set-back n s (good n k q s t .wide))
 
   -- so it is taken by the row, which then knows it too
-  ready-step : (a : Answer) → taken n k (Some q) a ≡ true → Room k a → Ready n (row-after row (judged-row row (code a))) (with-answer k (Some q) a)
+  pub ready-step : (a : Answer) → taken n k (Some q) a ≡ true → Room k a → Ready n (row-after row (judged-row row (code a))) (with-answer k (Some q) a)
   ready-step a t room =
       let step : Step = step-of q a in
       let fits : Room-for (ready .tally) step = step-room a room in

@@ -5,18 +5,20 @@ use mathlib.Core.List.{List, [], _∷_, _++_}
 use Prim.Native.Nat.{ℕ}
 use Rattle.std.specs.declared.option.Option.{Option}
 use Rattle.std.specs.declared.option.Option.the-variants.{None}
-use Rattle.attributes.specs.Numbers.{number-of}
+use Rattle.attributes.specs.Numbers.{number-of, set-in}
 use Rattle.contexts.specs.Contexts.{Context}
-use Rattle.exploration.specs.Answers.{judged-row, row-after}
-use Rattle.exploration.specs.Dialogue.{Answer, always, object, question}
-use Rattle.exploration.specs.Promise.{Explored, Honest, learnt}
+use Rattle.exploration.specs.Answers.{checked-answer, judged-row, row-after}
+use Rattle.exploration.specs.Dialogue.{Answer, after, always, object, question, taken}
+use Rattle.exploration.specs.Promise.{Explored, Honest, Room, learnt}
 use Rattle.std.specs.Of.Vec.{vec-items}
 use Rattle.std.specs.Results.{isOk}
 use Rattle.std.specs.shelf.Lists.{All}
 use Rattle.std.specs.declared.result.Result.{Result}
 use Rattle.std.specs.declared.result.Result.the-variants.{Ok, Err}
-use Rattle.exploration.specs.Row.{asked-in, known-in, opened, opening}
+use Rattle.exploration.specs.Row.{asked-in, attributes-in, known-in, opened, opening, row-fault}
 use Rattle.contexts.specs.declared.implication.Implication.{Implication as Pair}
+use Rattle.exploration.specs.declared.answer.Answer.{Answer as Given}
+use Rattle.exploration.specs.declared.answer.Answer.the-variants.{Always, Object}
 use Rattle.exploration.specs.declared.dialogue.Dialogue.{Dialogue}
 use Rattle.exploration.specs.declared.dialogue.NotHeld.{NotHeld}
 use Rattle.exploration.specs.declared.dialogue.NotHeld.the-variants.{Refused, OutOfMemory}
@@ -79,3 +81,19 @@ pub record Kept (n : ℕ) (yard : Context) (said : List Answer) (turns : List Tu
 abbrev pub Promise-kept : ℕ → List ℕ → Result Told NotHeld → List ℕ → Type 0
 Promise-kept n answers (Ok all) row = (yard : Context) (said : List Answer) → Honest n yard said → answers ≡ encoded said → Kept n yard said (all .turns) row
 Promise-kept n answers (Err reason) row = Unit {0}
+
+-- an answer of the code as the definitions have it
+abbrev pub answer-of : ℕ → Given → Answer
+answer-of n Always = always
+answer-of n (Object named) = object (set-in n (named .bits))
+
+-- For every row that passes its checks, reached by a dialogue or not, and every answer that can be read: it is taken exactly if the
+-- definition of the dialogue takes it, unless there is no room, and the row then knows what the definition says.
+pub record As-defined (row answer : List ℕ) (given : Given) : Type 0 where
+  pub taken : isOk (judged-row row answer) ≡ taken (attributes-in row) (known-in row) (question (attributes-in row) (known-in row)) (answer-of (attributes-in row) given)
+  pub known : known-in (row-after row (judged-row row answer)) ≡ after (attributes-in row) (known-in row) (answer-of (attributes-in row) given)
+
+abbrev pub Answers-as-defined : Type 0
+Answers-as-defined =
+    (row answer : List ℕ) (given : Given) → row-fault row ≡ None → checked-answer (attributes-in row) answer ≡ Ok given
+    → Room (known-in row) (answer-of (attributes-in row) given) → As-defined row answer given

@@ -34,6 +34,7 @@ pub use reply::Reply;
 pub use reply::ReplyDisplay;
 pub use row::ROW_LENGTH;
 pub use theorems::always_room;
+pub use theorems::answers_as_defined;
 pub use theorems::answers_bounded;
 pub use theorems::can_be_finished;
 pub use theorems::few_of_each;

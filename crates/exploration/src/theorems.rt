@@ -1,4 +1,5 @@
 // What an exploration promises. Each promise is the contract of a function that does nothing else.
+ghost use Rattle.exploration.specs.Turns.{Answers-as-defined};
 ghost use Rattle.exploration.specs.Promise.{Main-promise, Same-implications, Truth-is-taken, Nothing-settled-is-asked, Never-goes-back, Few-of-each, Answers-bounded, Can-be-finished, Always-room, None-is-spare};
 
 // Once nothing is asked, what is confirmed is least for the yard, and the examples tell what holds there.
@@ -67,6 +68,13 @@ pub fn always_room() -> u8
 // No confirmed implication follows from the others.
 pub fn none_is_spare() -> u8
     ensures { λ _. ⌜ None-is-spare ⌝ }
+{
+    0
+}
+
+// What the row's entries do with an answer is what the definition of the dialogue does.
+pub fn answers_as_defined() -> u8
+    ensures { λ _. ⌜ Answers-as-defined ⌝ }
 {
     0
 }
