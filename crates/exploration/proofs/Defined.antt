@@ -80,7 +80,7 @@ module _ (row answer : List ℕ) (g : Given) (ready : Ready (attributes-in row) 
   own =
       judgement
       ∙ sym (judged-known (attributes-in row) row (known-in row) ready (code a)
-        ∙ ap (judged-given (attributes-in row) (known-in row .confirmed) (counts-in row) (mapped pair-of (question (attributes-in row) (known-in row)))) (own-numbers (attributes-in row) g (answer-bounded (attributes-in row) answer g read)))
+      ∙ ap (judged-given (attributes-in row) (known-in row .confirmed) (counts-in row) (mapped pair-of (question (attributes-in row) (known-in row)))) (own-numbers (attributes-in row) g (answer-bounded (attributes-in row) answer g read)))
 
   -- what both say once it is known whether the definition takes it
   when-refused : isOk (judged-row row answer) ≡ false → taken n k (question n k) a ≡ false → As-defined row answer g
@@ -99,14 +99,14 @@ module _ (row answer : List ℕ) (g : Given) (ready : Ready (attributes-in row) 
   not-taken q wide-p wide-c (Object s) t =
       let set : Set = set-in (attributes-in row) (s .bits) in
       let rest : (not (respects set q) && respects-all set (known-in row .confirmed)) ≡ false =
-        sym (ap (λ (b : Bool). b && (not (respects set q) && respects-all set (known-in row .confirmed))) (eq-eqb (length set) (attributes-in row) (length-set-in (attributes-in row) (s .bits)))) ∙ t
+      sym (ap (λ (b : Bool). b && (not (respects set q) && respects-all set (known-in row .confirmed))) (eq-eqb (length set) (attributes-in row) (length-set-in (attributes-in row) (s .bits)))) ∙ t
       in
       let same : implication-at (attributes-in row) (pair-of q) ≡ q = pair-back (attributes-in row) q wide-p wide-c in
       let why : (respects set (implication-at (attributes-in row) (pair-of q)) ≡ true) ⊎ (respects-all set (known-in row .confirmed) ≡ false) =
-        elim (and-cases (not (respects set q)) (respects-all set (known-in row .confirmed)) rest) [
-          inl h ↦ inl (ap (respects set) same ∙ not-false (respects set q) h)
+      elim (and-cases (not (respects set q)) (respects-all set (known-in row .confirmed)) rest) [
+        | inl h ↦ inl (ap (respects set) same ∙ not-false (respects set q) h)
         | inr h ↦ inr h
-        ]
+      ]
       in
       not-named (counts-in row) (checked-object (attributes-in row) (known-in row .confirmed) (pair-of q) s) (object-not-taken (attributes-in row) (known-in row .confirmed) (pair-of q) s why)
 
@@ -117,25 +117,25 @@ module _ (row answer : List ℕ) (g : Given) (ready : Ready (attributes-in row) 
       go : (o : Option Implication) → question (attributes-in row) (known-in row) ≡ o → As-defined row answer g
       go None e =
           when-refused (ap isOk (judgement ∙ ap (λ (o : Option Implication). judged (attributes-in row) (known-in row .confirmed) (counts-in row) (mapped pair-of o) g) e))
-            (ap (λ (o : Option Implication). taken (attributes-in row) (known-in row) o (answer-of (attributes-in row) g)) e)
+          (ap (λ (o : Option Implication). taken (attributes-in row) (known-in row) o (answer-of (attributes-in row) g)) e)
       go (Some q) e =
           let about = asks (attributes-in row) (known-in row .confirmed) (known-in row .examples) q e in
           let wide-c = asks-concluded (attributes-in row) (known-in row .examples) (objects-width (attributes-in row) (example-part row)) (known-in row .confirmed) q about in
           let at : taken (attributes-in row) (known-in row) (question (attributes-in row) (known-in row)) (answer-of (attributes-in row) g) ≡ taken (attributes-in row) (known-in row) (Some q) (answer-of (attributes-in row) g) =
-            ap (λ (o : Option Implication). taken (attributes-in row) (known-in row) o (answer-of (attributes-in row) g)) e
+          ap (λ (o : Option Implication). taken (attributes-in row) (known-in row) o (answer-of (attributes-in row) g)) e
           in
           elim (cases-bool (taken (attributes-in row) (known-in row) (Some q) (answer-of (attributes-in row) g))) [
-            inl t ↦ record {
+            | inl t ↦ record {
               taken = ap isOk (own ∙ judged-step (attributes-in row) row (known-in row) ready q e (about .wide) wide-c (answer-of (attributes-in row) g) t room) ∙ sym (at ∙ t);
               known =
-                ap (λ (r : Result Step Refusal). known-in (row-after row r)) own
-                ∙ ready-step (attributes-in row) row (known-in row) ready q e (about .wide) wide-c (answer-of (attributes-in row) g) t room .known
-                ∙ sym (cond-true (taken (attributes-in row) (known-in row) (question (attributes-in row) (known-in row)) (answer-of (attributes-in row) g))
+                  ap (λ (r : Result Step Refusal). known-in (row-after row r)) own
+                  ∙ ready-step (attributes-in row) row (known-in row) ready q e (about .wide) wide-c (answer-of (attributes-in row) g) t room .known
+                  ∙ sym (cond-true (taken (attributes-in row) (known-in row) (question (attributes-in row) (known-in row)) (answer-of (attributes-in row) g))
                   (with-answer (known-in row) (question (attributes-in row) (known-in row)) (answer-of (attributes-in row) g)) (known-in row) (at ∙ t)
                   ∙ ap (λ (o : Option Implication). with-answer (known-in row) o (answer-of (attributes-in row) g)) e);
             }
-          | inr t ↦ when-refused
-              (ap isOk (judgement ∙ ap (λ (o : Option Implication). judged (attributes-in row) (known-in row .confirmed) (counts-in row) (mapped pair-of o) g) e) ∙ not-taken q (about .wide) wide-c g t) (at ∙ t)
+            | inr t ↦ when-refused
+                (ap isOk (judgement ∙ ap (λ (o : Option Implication). judged (attributes-in row) (known-in row .confirmed) (counts-in row) (mapped pair-of o) g) e) ∙ not-taken q (about .wide) wide-c g t) (at ∙ t)
           ]
 
 pub answers-as-defined : Answers-as-defined

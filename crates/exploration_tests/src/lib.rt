@@ -6,6 +6,7 @@ mod tests {
     use exploration::ReplyDisplay;
     use exploration::open;
     use exploration::question;
+    use exploration::take_answer;
     use std::test::*;
 
     // The number and the place of the refusal to open a row of a length.
@@ -135,5 +136,46 @@ mod tests {
         let mut counts = row(r, 13, &[], &[])?;
         write(&mut counts, 1, &[4096, 4097]);
         asks(r, Ok(counts), "refused 1 at 2")
+    }
+
+    // The reply to an answer, as text, and how many implications and examples the row counts then.
+    fn replies(
+        rt: &LibcRuntime,
+        row: &mut Vec<u64>,
+        answer: &[u64],
+        text: &str,
+        counts: (u64, u64),
+    ) -> Result<(), Fail> {
+        let reply = format!(rt.alloc(), "{}", take_answer(row.as_mut_slice(), answer))?;
+        check_eq(reply.as_str(), text)?;
+        check(row.len() > 2)?;
+        check_eq(row[1], counts.0)?;
+        check_eq(row[2], counts.1)
+    }
+
+    #[test]
+    fn answers_of_every_shape(rt: LibcRuntime) -> Result<(), Fail> {
+        let mut known = row(&rt, 2, &[2, 3], &[1])?;
+        replies(&rt, &mut known, &[], "refused 3 at 0", (1, 1))?;
+        replies(&rt, &mut known, &[1], "refused 3 at 1", (1, 1))?;
+        replies(&rt, &mut known, &[2, 0], "refused 3 at 0", (1, 1))?;
+        replies(&rt, &mut known, &[0, 1], "refused 3 at 1", (1, 1))?;
+        replies(&rt, &mut known, &[1, 4], "refused 3 at 1", (1, 1))?;
+        replies(&rt, &mut known, &[1, 1], "refused 5 at 1", (1, 1))?;
+        replies(&rt, &mut known, &[1, 2], "refused 6 at 0", (1, 1))?;
+        replies(&rt, &mut known, &[1, 0, 9], "finished", (1, 2))?;
+        replies(&rt, &mut known, &[0, 0], "refused 4 at 0", (1, 2))
+    }
+
+    // Rows that no exploration fills: each kind of answer needs room of its own kind only.
+    #[test]
+    fn full_rows(rt: LibcRuntime) -> Result<(), Fail> {
+        let mut known = row(&rt, 2, &[], &[])?;
+        write(&mut known, 1, &[4096, 0]);
+        replies(&rt, &mut known, &[0, 0], "refused 7 at 1", (4096, 0))?;
+        replies(&rt, &mut known, &[1, 0], "all with 1 have 0 1?", (4096, 1))?;
+        write(&mut known, 1, &[0, 4096]);
+        replies(&rt, &mut known, &[1, 2], "refused 7 at 2", (0, 4096))?;
+        replies(&rt, &mut known, &[0, 0], "all with 0 have 0 1?", (1, 4096))
     }
 }
