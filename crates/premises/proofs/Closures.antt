@@ -42,7 +42,7 @@ has-kept {X} test (y ∷ xs) x h p = go (test y) refl (has-cases y xs x h) (λ m
     go false e (inr m) later = later m
 
 module _ (n : ℕ) (is : List Implication) where
-  respecting-width : Of-width n (respecting n is)
+  pub respecting-width : Of-width n (respecting n is)
   respecting-width = all-kept-by (λ (s : Set). respects-all s is) (λ (s : Set). length s ≡ n) (sets n)
       (all-from-getD (λ (s : Set). length s ≡ n) (sets n) [] (λ i h. lectic-agrees n .wide i (omega (arith, lectic-agrees n .count))))
 

@@ -1,0 +1,4 @@
+pub mod Bases
+pub mod Laws
+pub mod Refusals
+pub mod Rows
