@@ -10,4 +10,5 @@ pub use reply::Reply;
 pub use row::BASE_LENGTH;
 pub use theorems::base_is_explored;
 pub use theorems::base_is_least;
+pub use theorems::base_of_list_is_shortest;
 pub use theorems::one_base;
