@@ -1,3 +1,4 @@
 pub mod Asked
 pub mod Shortest
 mod Sound
+mod Turns

@@ -62,6 +62,13 @@ numbers-of (i ∷ is) = number-of (i .premise) ∷ (number-of (i .conclusion) �
 abbrev pub numbers-then : List Implication → List ℕ → List ℕ
 numbers-then is before = numbers-of is ++ drop (2 * length is) before
 
+-- the base of the context is written to a part of a row, so many implications, and what stands behind them is as it was
+pub record Written-part (n : ℕ) (u : Context) (count : ℕ) (before after : List ℕ) : Type 0 where
+  pub base : List Implication
+  pub is-base : Base n u base
+  pub counted : length base ≡ count
+  pub part : after ≡ numbers-then base before
+
 -- the base of the context is written: n, the count and its numbers, and what stands behind them is as it was
 pub record Written-base (n : ℕ) (u : Context) (before after : List ℕ) : Type 0 where
   pub base : List Implication

@@ -3,6 +3,7 @@
 mod reply;
 mod row;
 mod theorems;
+mod writing;
 
 pub use reply::Refusal;
 pub use reply::RefusalDisplay;
