@@ -1,4 +1,5 @@
 pub mod Asked
+mod Filled
 pub mod Shortest
 mod Sound
 mod Turns

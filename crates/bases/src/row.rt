@@ -37,7 +37,7 @@ fn sound_front(limit: u64, numbers: &[u64]) -> usize
 // The first refusal that applies to an input with rows of so many numbers and to an output of this length, or what the input's header says.
 pub fn check(input: &[u64], width: usize, room: usize) -> Result<Header, Refusal>
     requires { ⌜ 0 < width ⌝ }
-    ensures { λ r. ⌜ Cases r (λ h. (fault width (now (input .entry)) room ≡ None) × (h .n .value ≡ attributes-in (now (input .entry))) × (h .count ≡ count-in (now (input .entry))) × (width * h .count ≤ length (now (input .entry)) - 2)) (λ e. fault width (now (input .entry)) room ≡ Some e) ⌝ }
+    ensures { λ r. ⌜ Cases r (λ h. (fault width (now (input .entry)) room ≡ None) × (h .n .value ≡ attributes-in (now (input .entry))) × (h .count ≡ count-in (now (input .entry))) × (width * h .count ≤ length (now (input .entry)) - 2) × (8194 ≤ room)) (λ e. fault width (now (input .entry)) room ≡ Some e) ⌝ }
 {
     if room < BASE_LENGTH {
         return Err(Refusal::OutputTooShort(room));

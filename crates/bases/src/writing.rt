@@ -8,15 +8,26 @@ ghost use Rattle.contexts.specs.Contexts.{Context};
 ghost use Rattle.contexts.specs.Values.{implication-at};
 ghost use Rattle.implications.specs.Values.{implications-in};
 ghost use Rattle.bases.specs.Bases.{Common-to, asked-from};
-ghost use Rattle.bases.specs.Rows.{Written-part};
+ghost use Rattle.bases.specs.Rows.{Written-base, Written-part};
 use attributes::AttributeCount;
 use attributes::AttributeSet;
 use contexts::Implication;
 use premises::Forces;
 use premises::first_open_from;
 
+// Writes the base of what is forced to a row: how many attributes there are, the count, and the implications.
+pub fn fill<F: Forces>(n: AttributeCount, forces: &F, base: &mut [u64])
+    requires room { ⌜ 8194 ≤ length (now base) ⌝ }
+    requires yard { ⌜ ((u : Context) × Common-to (n .value) (F·Forces .forced (now forces) (n .value)) u) ⌝ }
+    ensures { λ _. ⌜ ((u : Context) → Common-to (n .value) (F·Forces .forced (now (forces .entry)) (n .value)) u → Written-base (n .value) u (now (base .entry)) (now (base .exit))) ⌝ }
+{
+    let count = write_base(n, forces, &mut base[2..]);
+    base[0] = u64::from(n.get());
+    base[1] = count as u64;
+}
+
 // Writes the base of what is forced, and returns its length. Each search begins at the last premise, since no set before it is open any more.
-pub fn write_base<F: Forces>(n: AttributeCount, forces: &F, part: &mut [u64]) -> usize
+fn write_base<F: Forces>(n: AttributeCount, forces: &F, part: &mut [u64]) -> usize
     requires room { ⌜ 8192 ≤ length (now part) ⌝ }
     requires yard { ⌜ ((u : Context) × Common-to (n .value) (F·Forces .forced (now forces) (n .value)) u) ⌝ }
     ensures { λ r. ⌜ ((u : Context) → Common-to (n .value) (F·Forces .forced (now (forces .entry)) (n .value)) u → Written-part (n .value) u r (now (part .entry)) (now (part .exit))) ⌝ }

@@ -1,3 +1,3 @@
 pub mod Holding
 pub mod CommonAttributes
-mod Walks
+pub mod Walks
