@@ -1,4 +1,6 @@
+mod Apart
 pub mod Asked
+mod Closed
 mod Filled
 pub mod Shortest
 mod Sound

@@ -10,11 +10,16 @@ use premises::ImpliedForce;
 use row::check;
 use writing::fill;
 
+mod comparing;
 mod reply;
 mod row;
 mod theorems;
 mod writing;
 
+pub use comparing::Comparison;
+pub use comparing::Difference;
+pub use comparing::compare;
+pub use comparing::first_difference;
 pub use reply::Refusal;
 pub use reply::RefusalDisplay;
 pub use reply::Reply;
