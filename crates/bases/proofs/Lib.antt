@@ -2,6 +2,6 @@ mod Apart
 pub mod Asked
 mod Closed
 mod Filled
-pub mod Shortest
+pub mod Equivalents
 mod Sound
 mod Turns

@@ -8,7 +8,6 @@ use Rattle.std.specs.Options.{mapped}
 use Rattle.std.specs.declared.option.Option.{Option}
 use Rattle.std.specs.declared.option.Option.the-variants.{Some, None}
 use Rattle.std.specs.shelf.Lists.{All}
-use Rattle.std.proofs.shelf.Elements.{all-weaker}
 use Rattle.std.proofs.shelf.Lists.{drop-more, length-append, length-push, set-at, take-at}
 use Rattle.attributes.specs.Numbers.{set-in, number-of}
 use Rattle.attributes.specs.Sets.{Set}
@@ -20,11 +19,11 @@ use Rattle.premises.specs.Open.{first-open, first-open-from}
 use Rattle.premises.proofs.First.{no-some}
 use Rattle.premises.proofs.From.{from-empty, search-may-begin}
 use Rattle.exploration.specs.Dialogue.{question}
-use Rattle.exploration.proofs.Question.{Asks, asks, asks-concluded, none-asked}
-use Rattle.exploration.proofs.Run.{Run, Later, run-later, run-bound, run-push}
-use Rattle.bases.specs.Bases.{knowing, asked-from, Base, Common-to}
+use Rattle.exploration.proofs.Question.{Asks, asks, none-asked}
+use Rattle.exploration.proofs.Run.{Run, run-bound, run-push}
+use Rattle.bases.specs.Bases.{knowing, asked-from, Common-to}
 use Rattle.bases.specs.Rows.{numbers-of, Written-part}
-use Rattle.bases.proofs.Asked.{run-turn}
+use Rattle.bases.proofs.Asked.{run-over, run-turn}
 
 pub length-numbers : (is : List Implication) → length (numbers-of is) ≡ 2 * length is
 unfolding numbers-of
@@ -90,9 +89,6 @@ module _ (n : ℕ) (u : Context) (wide : Of-width n u) (before : List ℕ) where
   writing-none = record { so-far = []; counted = refl; run = tt; part = refl; begins = from-empty n (common n u) [] }
 
   module _ (now : List ℕ) (count from : ℕ) (w : Writing n u before now count from) where
-    over : All (Over n) (w .so-far)
-    over = all-weaker (Later n u []) (Over n) (λ r l. (l .2 .wide, asks-concluded n u wide (l .0) r (l .2))) (w .so-far) (run-later n u [] (w .so-far) (w .run))
-
     filled : length (numbers-of (w .so-far)) ≡ 2 * count
     filled = omega (arith, length-numbers (w .so-far), w .counted)
 
@@ -101,7 +97,7 @@ module _ (n : ℕ) (u : Context) (wide : Of-width n u) (before : List ℕ) where
     read-back =
         ap (λ (row : List ℕ). implications-in n (take (2 * count) row)) (w .part)
         ∙ ap (implications-in n) (take-at (numbers-of (w .so-far)) (drop (2 * count) before) (2 * count) filled)
-        ∙ numbers-back n (w .so-far) over
+        ∙ numbers-back n (w .so-far) (run-over n u wide (w .so-far) (w .run))
 
     asked-next : asked-from n (common n u) (implications-in n (take (2 * count) now)) (set-in n from) ≡ question n (knowing u (w .so-far))
     unfolding question

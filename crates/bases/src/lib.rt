@@ -1,7 +1,9 @@
 // The least list of implications for a context and for a list.
 ghost use mathlib.Core.Path.{_≡_};
 ghost use lib.ListN.{length};
+ghost use Rattle.std.specs.declared.option.Option.the-variants.{None};
 ghost use Rattle.premises.specs.Forced.{respecting};
+ghost use Rattle.bases.specs.Laws.{Explored-base, Shortest};
 ghost use Rattle.bases.specs.Rows.{Output, attributes-in, context-in, fault, list-in, reply-of};
 use premises::Examples;
 use premises::ExamplesForce;
@@ -24,9 +26,6 @@ pub use reply::Refusal;
 pub use reply::RefusalDisplay;
 pub use reply::Reply;
 pub use row::BASE_LENGTH;
-pub use theorems::base_is_explored;
-pub use theorems::base_is_least;
-pub use theorems::base_of_list_is_shortest;
 pub use theorems::one_base;
 
 // Writes the list that an exploration of a context confirms: n, the count, and two numbers for each implication. The context has n, the count
@@ -34,6 +33,7 @@ pub use theorems::one_base;
 pub fn base_of_context(context: &[u64], base: &mut [u64]) -> Reply
     ensures reply { λ r. ⌜ r ≡ reply-of (fault 1 (now (context .entry)) (length (now (base .entry)))) ⌝ }
     ensures output { λ _. ⌜ Output (fault 1 (now (context .entry)) (length (now (base .entry)))) (attributes-in (now (context .entry))) (context-in (now (context .entry))) (now (base .entry)) (now (base .exit)) ⌝ }
+    ensures meaning { λ _. ⌜ (fault 1 (now (context .entry)) (length (now (base .entry))) ≡ None → Explored-base (attributes-in (now (context .entry))) (context-in (now (context .entry))) (list-in (now (base .exit)))) ⌝ }
 {
     match check(context, 1, base.len()) {
         Err(refusal) => Reply::Refused(refusal),
@@ -49,6 +49,7 @@ pub fn base_of_context(context: &[u64], base: &mut [u64]) -> Reply
 pub fn base_of_list(list: &[u64], base: &mut [u64]) -> Reply
     ensures reply { λ r. ⌜ r ≡ reply-of (fault 2 (now (list .entry)) (length (now (base .entry)))) ⌝ }
     ensures output { λ _. ⌜ Output (fault 2 (now (list .entry)) (length (now (base .entry)))) (attributes-in (now (list .entry))) (respecting (attributes-in (now (list .entry))) (list-in (now (list .entry)))) (now (base .entry)) (now (base .exit)) ⌝ }
+    ensures meaning { λ _. ⌜ (fault 2 (now (list .entry)) (length (now (base .entry))) ≡ None → Shortest (attributes-in (now (list .entry))) (list-in (now (list .entry))) (list-in (now (base .exit)))) ⌝ }
 {
     match check(list, 2, base.len()) {
         Err(refusal) => Reply::Refused(refusal),

@@ -15,8 +15,8 @@ use Rattle.implications.proofs.Respects.{all-hold-has, has-all-hold, objects-ho
 use Rattle.premises.specs.Forced.{respecting}
 use Rattle.premises.proofs.Closures.{respecting-width, has-respecting}
 use Rattle.bases.specs.Bases.{Base, Equivalent}
-use Rattle.bases.specs.Laws.{Base-of-list-is-shortest}
-use Rattle.bases.proofs.Asked.{base-is-least}
+use Rattle.bases.specs.Laws.{Shortest}
+use Rattle.bases.proofs.Asked.{base-least}
 
 module _ (n : ℕ) (is : List Implication) where
   list-holds : all-hold (respecting n is) is ≡ true
@@ -41,9 +41,9 @@ complete-from n is others e =
       all = λ i over h. follows-through n is others i (e .back) (holds-follows n is i h);
     }
 
-pub base-of-list-is-shortest : Base-of-list-is-shortest
-base-of-list-is-shortest n is base over b =
-    let least = base-is-least n (respecting n is) base (respecting-width n is) b in
+pub base-shortest : (n : ℕ) (is base : List Implication) → All (Over n) is → Base n (respecting n is) base → Shortest n is base
+base-shortest n is base over b =
+    let least = base-least n (respecting n is) base (respecting-width n is) b in
     record {
       same =
           record {
