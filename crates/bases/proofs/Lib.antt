@@ -1,7 +1,8 @@
 mod Apart
 pub mod Asked
 mod Closed
-mod Filled
 pub mod Equivalents
+mod Filled
+mod Pairing
 mod Sound
 mod Turns

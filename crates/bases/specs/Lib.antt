@@ -1,4 +1,5 @@
 pub mod Bases
+pub mod Bytes
 pub mod Compared
 pub mod Laws
 pub mod Refusals

@@ -12,12 +12,16 @@ use premises::ImpliedForce;
 use row::check;
 use writing::fill;
 
+mod bytes;
 mod comparing;
 mod reply;
 mod row;
 mod theorems;
 mod writing;
 
+pub use bytes::behind_list;
+pub use bytes::context_from_bytes;
+pub use bytes::list_from_bytes;
 pub use comparing::Comparison;
 pub use comparing::Difference;
 pub use comparing::compare;
