@@ -45,6 +45,6 @@ compared-same n one other Same e = (
   λ _ s w. same-from-decides (respects-all s one) (respects-all s other) (respects-what-follows n one other (e .there) s w, respects-what-follows n other one (e .back) s w) (λ h. h, λ h. h),
   λ _. refl,
 )
-compared-same n one other (OneSaysMore d) h = (λ e. absurd (both-ways false refl e), λ same. absurd (different n one other _ _ _ (h .0) same))
-compared-same n one other (OtherSaysMore d) h = (λ e. absurd (both-ways false refl e), λ same. absurd (different n other one _ _ _ (h .1) (λ s w. sym (same s w))))
-compared-same n one other (EachSaysMore d e) h = (λ e. absurd (both-ways false refl e), λ same. absurd (different n one other _ _ _ (h .0) same))
+compared-same n one other (OneSaysMore d) h = (λ e. absurd (both-ways false refl e), λ same. absurd (different n one other _ _ _ (h .0 .difference) same))
+compared-same n one other (OtherSaysMore d) h = (λ e. absurd (both-ways false refl e), λ same. absurd (different n other one _ _ _ (h .1 .difference) (λ s w. sym (same s w))))
+compared-same n one other (EachSaysMore d e) h = (λ e. absurd (both-ways false refl e), λ same. absurd (different n one other _ _ _ (h .0 .difference) same))

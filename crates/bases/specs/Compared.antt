@@ -2,7 +2,7 @@
 use mathlib.Core.Path.{_≡_}
 use mathlib.Core.Bool.{Bool, true, false, _&&_, not}
 use mathlib.Core.List.{List}
-use Prim.Native.Nat.{ℕ, _<_}
+use Prim.Native.Nat.{ℕ, _^_, _<_}
 use lib.ListN.{length, getD}
 use Rattle.std.specs.declared.option.Option.{Option}
 use Rattle.std.specs.declared.option.Option.the-variants.{Some, None}
@@ -32,9 +32,12 @@ pub record First-difference (n : ℕ) (one other : List Implication) (place : �
   pub fails : Follows n other i → ⊥
   pub first : Is-first n (tells-apart other i) witness
 
--- what a difference of the code says of the first n attributes
-abbrev pub Differs : ℕ → List Implication → List Implication → Difference → Type 0
-Differs n one other d = First-difference n one other (d .place) (implication-at n (d .implication)) (set-in n (d .witness .bits))
+-- what a difference of the code says; its sets have no attribute that is not there
+pub record Differs (n : ℕ) (one other : List Implication) (d : Difference) : Type 0 where
+  pub difference : First-difference n one other (d .place) (implication-at n (d .implication)) (set-in n (d .witness .bits))
+  pub premise : d .implication .premise .bits < 2 ^ n
+  pub conclusion : d .implication .conclusion .bits < 2 ^ n
+  pub witness : d .witness .bits < 2 ^ n
 
 -- what is told by the first difference in either list
 abbrev pub comparison-of : Option Difference → Option Difference → Comparison

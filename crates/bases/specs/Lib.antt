@@ -4,3 +4,4 @@ pub mod Compared
 pub mod Laws
 pub mod Refusals
 pub mod Rows
+pub mod Told

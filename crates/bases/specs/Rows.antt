@@ -50,8 +50,11 @@ reply-of (Some refusal) = Refused refusal
 abbrev pub context-in : List ℕ → Context
 context-in row = objects-in (attributes-in row) (take (count-in row) (drop 2 row))
 
+abbrev pub implication-part : List ℕ → List ℕ
+implication-part row = take (2 * count-in row) (drop 2 row)
+
 abbrev pub list-in : List ℕ → List Implication
-list-in row = implications-in (attributes-in row) (take (2 * count-in row) (drop 2 row))
+list-in row = implications-in (attributes-in row) (implication-part row)
 
 -- the numbers of a list, two for each implication
 unfoldable pub numbers-of : List Implication → List ℕ

@@ -67,13 +67,7 @@ fn row_of(
 pub fn context_from_bytes(heap: Global, n: u8, bytes: &[u8]) -> Result<Vec<u64>, AllocError>
     ensures { λ r. ⌜ made r (λ v. vec-items v ≡ context-from n (now (bytes .entry))) ⌝ }
 {
-    row_of(
-        heap,
-        n,
-        bytes.len() - bytes.len() / 2,
-        Pair::Object,
-        bytes,
-    )
+    row_of(heap, n, bytes.len() - bytes.len() / 2, Pair::Object, bytes)
 }
 
 // The row of the list that begins these bytes: a pair for the count, and then two pairs for each implication.

@@ -3,16 +3,21 @@ ghost use mathlib.Core.Path.{_≡_};
 ghost use Prim.Native.Nat.{_^_, _<_};
 ghost use Rattle.std.specs.Options.{Cases};
 ghost use Rattle.std.specs.Orderings.{Decides};
+ghost use Rattle.std.specs.declared.option.Option.the-variants.{Some};
 ghost use Rattle.std.specs.shelf.Lists.{All};
 ghost use Rattle.implications.specs.Implications.{Follows};
 ghost use Rattle.implications.specs.Values.{implications-in};
+ghost use Rattle.bases.specs.Told.{comparison-text, difference-text};
 ghost use Rattle.bases.specs.Compared.{Compared, Differs, Same-closed, comparison-of, is-same};
 use attributes::AttributeCount;
 use attributes::AttributeSet;
+use attributes::AttributeSetDisplay;
 use attributes::AttributeSetPartialEq;
 use contexts::Implication;
+use contexts::ImplicationDisplay;
 use implications::nth;
 use implications::pass;
+use std::fmt;
 
 // An implication of one list that does not follow from the other, and the lectically first set that respects the other and breaks it.
 #[derive(Clone, Copy)]
@@ -20,6 +25,17 @@ pub struct Difference {
     pub place: usize,
     pub implication: Implication,
     pub witness: AttributeSet,
+}
+
+// The implication, and the set that breaks it.
+pub impl fmt::Display for Difference as DifferenceDisplay {
+    ghost shown = { λ d. Some (difference-text d) };
+
+    fn fmt<W: fmt::Write>(&self, f: &mut fmt::Formatter<W>) -> fmt::Result {
+        let implication = self.implication;
+        let witness = self.witness;
+        write!(f, "{implication}, as {witness}")
+    }
 }
 
 // How two lists compare, with the first difference in each list's order.
@@ -33,6 +49,22 @@ pub enum Comparison {
     OtherSaysMore(Difference),
     // Neither follows from the other: a difference in the first list, and one in the second.
     EachSaysMore(Difference, Difference),
+}
+
+// What is in one list and not in the other, a line for each.
+pub impl fmt::Display for Comparison as ComparisonDisplay {
+    ghost shown = { λ r. Some (comparison-text r) };
+
+    fn fmt<W: fmt::Write>(&self, f: &mut fmt::Formatter<W>) -> fmt::Result {
+        match self {
+            Comparison::Same => write!(f, "same"),
+            Comparison::OneSaysMore(first) => write!(f, "not in the second: {first}"),
+            Comparison::OtherSaysMore(second) => write!(f, "not in the first: {second}"),
+            Comparison::EachSaysMore(first, second) => {
+                write!(f, "not in the second: {first}\nnot in the first: {second}")
+            }
+        }
+    }
 }
 
 // Compares two lists of implications, two numbers each.

@@ -23,13 +23,16 @@ pub use bytes::behind_list;
 pub use bytes::context_from_bytes;
 pub use bytes::list_from_bytes;
 pub use comparing::Comparison;
+pub use comparing::ComparisonDisplay;
 pub use comparing::Difference;
+pub use comparing::DifferenceDisplay;
 pub use comparing::compare;
 pub use comparing::first_difference;
 pub use reply::Refusal;
 pub use reply::RefusalDisplay;
 pub use reply::Reply;
 pub use row::BASE_LENGTH;
+pub use row::implications_of;
 pub use theorems::one_base;
 
 // Writes the list that an exploration of a context confirms: n, the count, and two numbers for each implication. The context has n, the count

@@ -4,7 +4,7 @@ ghost use Prim.Native.Nat.{_*_, _-_, _≤_, _<_};
 ghost use lib.ListN.{length};
 ghost use Rattle.std.specs.Results.{Cases};
 ghost use Rattle.std.specs.declared.option.Option.the-variants.{None, Some};
-ghost use Rattle.bases.specs.Rows.{attributes-in, count-in, fault, sound-front, sound-rows};
+ghost use Rattle.bases.specs.Rows.{attributes-in, count-in, fault, implication-part, sound-front, sound-rows};
 use crate::reply::Refusal;
 use attributes::AttributeCount;
 
@@ -77,4 +77,18 @@ fn first_of(row: &[u64]) -> u64
         return 0;
     }
     row[0]
+}
+
+// The numbers of the implications that a row counts, as many as it has.
+pub fn implications_of(row: &[u64]) -> &[u64]
+    ensures { λ r. ⌜ now r ≡ implication-part (now (row .entry)) ⌝ }
+{
+    if row.len() < 2 {
+        return &row[row.len()..];
+    }
+    let rest = &row[2..];
+    if row[1] > (rest.len() / 2) as u64 {
+        return rest;
+    }
+    &rest[..2 * row[1] as usize]
 }

@@ -71,11 +71,17 @@ returns-then-eq c =
     let same : Passed n is r r = subst (λ (m : ℕ). Passed n is r (set-in n m)) (c .eq .ensures .0 (c .if-eq .taken)) (c .pass-grown .ensures .value) in
     let lacks : subset (i .conclusion) r ≡ false = sym (c .is-subset-of .ensures n (c .in-Some .ensures tt .bound .1)) ∙ c .loop-implication-test .taken in
     record {
-      inside = omega (arith, c .in-Some .ensures tt .value .0, implications-length n one);
-      there = c .in-Some .ensures tt .value .1;
-      before = c .implications .inv .1;
-      fails = reaching-fails n is i r (c .loop-implication .inv .2) wide same lacks;
-      first = reaching-first n is i r (c .loop-implication .inv .2) wide same lacks;
+      difference =
+          record {
+            inside = omega (arith, c .in-Some .ensures tt .value .0, implications-length n one);
+            there = c .in-Some .ensures tt .value .1;
+            before = c .implications .inv .1;
+            fails = reaching-fails n is i r (c .loop-implication .inv .2) wide same lacks;
+            first = reaching-first n is i r (c .loop-implication .inv .2) wide same lacks;
+          };
+      premise = c .in-Some .ensures tt .bound .0;
+      conclusion = c .in-Some .ensures tt .bound .1;
+      witness = c .loop-implication .inv .1;
     }
 
 pub returns-in-rest : need.returns-in-rest
