@@ -45,7 +45,11 @@ fn run(rt: &LibcRuntime) -> Result<(), AnyError> {
     let other = implications_of(second.as_slice());
     println!(rt, "{}", compare(count, one, other))?;
     println!(rt, "first: {} rules, {first_needs} needed", one.len() / 2)?;
-    println!(rt, "second: {} rules, {second_needs} needed", other.len() / 2)?;
+    println!(
+        rt,
+        "second: {} rules, {second_needs} needed",
+        other.len() / 2
+    )?;
     Ok(())
 }
 
