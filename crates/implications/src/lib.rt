@@ -16,11 +16,14 @@ use attributes::AttributeSetPartialEq;
 use contexts::Implication;
 
 mod laws;
+mod listed;
 
 pub use laws::follows_by_closure;
 pub use laws::meet_respects;
 pub use laws::one_closure;
 pub use laws::one_set_decides;
+pub use listed::Listed;
+pub use listed::ListedDisplay;
 
 // The place of the first implication that a set breaks.
 pub fn first_broken(n: AttributeCount, implications: &[u64], s: AttributeSet) -> Option<usize>

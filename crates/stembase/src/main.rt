@@ -6,8 +6,8 @@ use bases::Reply;
 use bases::base_of_context;
 use bases::context_from_bytes;
 use bases::implications_of;
-use contexts::ImplicationDisplay;
-use implications::nth;
+use implications::Listed;
+use implications::ListedDisplay;
 use std::error::AnyError;
 use std::io::Read;
 
@@ -29,23 +29,16 @@ fn run(rt: &LibcRuntime) -> Result<(), AnyError> {
     let context = context_from_bytes(heap, *n, objects)?;
     let mut base = vec![in heap; 0u64; BASE_LENGTH]?;
     match base_of_context(context.as_slice(), base.as_mut_slice()) {
-        Reply::Written => print_list(rt, u64::from(*n), implications_of(base.as_slice())),
-        Reply::Refused(refusal) => {
-            println!(rt, "{refusal}")?;
-            Ok(())
-        }
+        Reply::Written => print_list(rt, u64::from(*n), implications_of(base.as_slice()))?,
+        Reply::Refused(refusal) => println!(rt, "{refusal}")?,
     }
+    Ok(())
 }
 
-// Prints a line for each implication.
-fn print_list(rt: &LibcRuntime, n: u64, list: &[u64]) -> Result<(), AnyError> {
-    let Some(n) = AttributeCount::new(n) else {
-        return Ok(());
-    };
-    for place in 0..list.len() / 2 {
-        if let Some(implication) = nth(n, list, place) {
-            println!(rt, "{implication}")?;
-        }
+// Prints a line for each implication; more than twelve attributes have been refused before.
+fn print_list(rt: &LibcRuntime, n: u64, implications: &[u64]) -> Result<(), AnyError> {
+    if let Some(n) = AttributeCount::new(n) {
+        print!(rt, "{}", Listed { n, implications })?;
     }
     Ok(())
 }
