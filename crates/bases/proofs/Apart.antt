@@ -1,5 +1,5 @@
 -- An implication that follows from a list, or the first set that tells it apart from the list. Assumes nothing.
-use mathlib.Core.Path.{_≡_, refl, sym, ap, subst, _∙_}
+use mathlib.Core.Path.{_≡_, sym, subst, _∙_}
 use mathlib.Core.Bool.{true, false, not}
 use mathlib.Core.List.{List}
 use mathlib.Core.Logic.{inl, inr}
@@ -15,7 +15,7 @@ use Rattle.attributes.proofs.Lectic.{order-laws, subset-first}
 use Rattle.attributes.proofs.Sets.{subset-refl, subset-trans}
 use Rattle.contexts.specs.Contexts.{Implication, respects}
 use Rattle.contexts.proofs.Holding.{breaks, respects-apply, respects-from}
-use Rattle.implications.specs.Implications.{respects-all, Closure, Follows}
+use Rattle.implications.specs.Implications.{respects-all, Follows}
 use Rattle.implications.specs.Places.{no-implication, Passed}
 use Rattle.implications.proofs.Passes.{passed-same}
 use Rattle.implications.proofs.Respects.{one-set-decides}

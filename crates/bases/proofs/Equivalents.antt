@@ -3,12 +3,12 @@ use mathlib.Core.Path.{_≡_}
 use mathlib.Core.Bool.{true}
 use mathlib.Core.List.{List}
 use Prim.Native.Nat.{ℕ}
-use Rattle.std.specs.shelf.Lists.{All, Has}
+use Rattle.std.specs.shelf.Lists.{All}
 use Rattle.std.proofs.shelf.Elements.{all-has, kept-by-passes}
 use Rattle.attributes.specs.Lectic.{sets}
 use Rattle.attributes.specs.Sets.{Set}
 use Rattle.attributes.proofs.Members.{all-from-has}
-use Rattle.contexts.specs.Contexts.{Context, Implication, holds}
+use Rattle.contexts.specs.Contexts.{Implication, holds}
 use Rattle.contexts.proofs.Holding.{holds-has}
 use Rattle.implications.specs.Implications.{Over, respects-all, all-hold, Follows, Complete}
 use Rattle.implications.proofs.Respects.{all-hold-has, has-all-hold, objects-hold, one-set-decides}

@@ -5,7 +5,7 @@ use mathlib.Core.Logic.{inl, inr}
 use Prim.Native.Nat.{ℕ, zero, suc, _+_, _-_, _*_, _/_, _≤_, _<_, min}
 use native.Mathlib.Omega.{arith}
 use lib.ListN.{length, getD, take, drop}
-use Rattle.std.proofs.shelf.Lists.{append-nil, drop-all, take-all, take-more, take-rest}
+use Rattle.std.proofs.shelf.Lists.{drop-all, take-all, take-more, take-rest}
 use Rattle.std.proofs.shelf.Tests.{cases-lt}
 use Rattle.bases.specs.Bytes.{behind, list-count, number-by, pair-numbers}
 use Rattle.bases.specs.declared.bytes.Pair.{Pair}
@@ -31,9 +31,6 @@ module _ (kind : Pair) (before bytes : List ℕ) where
   -- the numbers of the first pairs stand behind what was there
   abbrev pub Pushed : List ℕ → ℕ → Type 0
   Pushed now k = now ≡ before ++ take k (pair-numbers kind bytes)
-
-  pub pushed-none : Pushed before 0
-  pushed-none = sym (append-nil before)
 
   pub pushed-more : (now next : List ℕ) (k m : ℕ) → k < length bytes / 2 → m ≡ number-by kind (getD bytes (2 * k) 0) (getD bytes (2 * k + 1) 0) → next ≡ now ++ m ∷ [] → Pushed now k → Pushed next (k + 1)
   pushed-more now next k m h e f p =

@@ -8,7 +8,7 @@ use Rattle.std.specs.Options.{mapped}
 use Rattle.std.specs.declared.option.Option.{Option}
 use Rattle.std.specs.declared.option.Option.the-variants.{Some, None}
 use Rattle.std.specs.shelf.Lists.{All}
-use Rattle.std.proofs.shelf.Lists.{drop-more, length-append, length-push, set-at, take-at}
+use Rattle.std.proofs.shelf.Lists.{drop-more, length-push, set-at, take-at}
 use Rattle.attributes.specs.Numbers.{set-in, number-of}
 use Rattle.attributes.specs.Sets.{Set}
 use Rattle.attributes.proofs.Numbers.{number-of-set-in, set-in-number-of}

@@ -10,7 +10,6 @@ use Rattle.std.specs.shelf.Lists.{All, Has, kept-by}
 use Rattle.std.proofs.shelf.Elements.{all-from-getD, all-kept-by, all-has, kept-by-passes, has-getD}
 use Rattle.std.proofs.shelf.Tests.{both-ways}
 use Rattle.attributes.specs.Lectic.{sets}
-use Rattle.attributes.specs.Numbers.{set-in}
 use Rattle.attributes.specs.Sets.{Set, subset, meet, everything}
 use Rattle.attributes.proofs.Lectic.{lectic-agrees}
 use Rattle.attributes.proofs.Members.{has-there, has-cases}

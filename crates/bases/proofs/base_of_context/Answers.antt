@@ -2,13 +2,13 @@ use mathlib.Core.Path.{refl, sym, ap, subst, _∙_}
 use mathlib.Core.List.{List}
 use Prim.Native.Nat.{ℕ, _+_, _-_}
 use native.Mathlib.Omega.{arith}
-use lib.ListN.{length, take, drop}
+use lib.ListN.{take, drop}
 use Rattle.std.specs.declared.option.Option.{Option}
 use Rattle.contexts.specs.Values.{objects-in}
 use Rattle.contexts.proofs.Walks.{objects-width}
 use Rattle.premises.proofs.First.{no-some}
 use Rattle.bases.specs.Laws.{Explored-base}
-use Rattle.bases.specs.Rows.{Output, Written-base, attributes-in, context-in, count-in, fault, reply-of}
+use Rattle.bases.specs.Rows.{Output, Written-base, attributes-in, context-in, count-in, reply-of}
 use Rattle.bases.specs.declared.reply.Refusal.{Refusal}
 use Rattle.bases.proofs.Asked.{base-explored}
 use Rattle.bases.proofs.Filled.{header-read, row-has-base}

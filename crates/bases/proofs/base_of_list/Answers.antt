@@ -2,7 +2,7 @@ use mathlib.Core.Path.{refl, sym, ap, subst, _∙_}
 use mathlib.Core.List.{List}
 use Prim.Native.Nat.{ℕ, _+_, _-_, _*_}
 use native.Mathlib.Omega.{arith}
-use lib.ListN.{length, take, drop}
+use lib.ListN.{take, drop}
 use Rattle.std.specs.declared.option.Option.{Option}
 use Rattle.contexts.specs.Contexts.{Context, Implication}
 use Rattle.implications.specs.Values.{implications-in}
@@ -10,7 +10,7 @@ use Rattle.premises.specs.Forced.{respecting}
 use Rattle.premises.proofs.Closures.{implications-over, respecting-width}
 use Rattle.premises.proofs.First.{no-some}
 use Rattle.bases.specs.Laws.{Shortest}
-use Rattle.bases.specs.Rows.{Output, Written-base, attributes-in, count-in, list-in, fault, reply-of}
+use Rattle.bases.specs.Rows.{Output, Written-base, attributes-in, count-in, list-in, reply-of}
 use Rattle.bases.specs.declared.reply.Refusal.{Refusal}
 use Rattle.bases.proofs.Equivalents.{base-shortest}
 use Rattle.bases.proofs.Filled.{header-read, row-has-base}

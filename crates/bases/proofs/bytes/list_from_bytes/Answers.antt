@@ -1,12 +1,11 @@
-use mathlib.Core.Path.{_≡_, sym, ap, subst, _∙_}
+use mathlib.Core.Path.{_≡_, subst}
 use mathlib.Core.List.{List, [], _∷_}
 use Prim.Native.Nat.{ℕ, _-_, _*_}
-use lib.Dec.{ltb}
 use lib.ListN.{length, take, drop}
 use Rattle.std.specs.Of.Vec.{vec-items}
 use Rattle.std.specs.Vec.{made}
 use Rattle.std.proofs.shelf.Tests.{cond-above}
-use Rattle.bases.specs.Bytes.{list-count, list-from, pair-numbers}
+use Rattle.bases.specs.Bytes.{list-count, pair-numbers}
 use Rattle.bases.specs.declared.bytes.Pair.the-variants.{Set}
 use Rattle.bases.proofs.Pairing.{list-cut}
 use Rattle.bases.proofs.bytes.list_from_bytes.Needs as need

@@ -4,7 +4,6 @@ use Prim.Native.Nat.{ℕ}
 use Rattle.contexts.specs.Contexts.{Implication}
 use Rattle.implications.specs.Values.{implications-in}
 use Rattle.bases.specs.Compared.{Compared}
-use Rattle.bases.specs.declared.comparing.Comparison.{Comparison}
 use Rattle.bases.proofs.Closed.{compared-by, compared-same}
 use Rattle.bases.proofs.comparing.compare.Needs as need
 

@@ -1,9 +1,9 @@
 use mathlib.Core.Path.{_≡_, sym, ap, subst, _∙_}
 use mathlib.Core.List.{List}
 use mathlib.Core.Bool.{false}
-use Prim.Native.Nat.{ℕ, _<_}
+use Prim.Native.Nat.{ℕ}
 use native.Mathlib.Omega.{arith}
-use lib.ListN.{length, getD}
+use lib.ListN.{length}
 use borrow.Author.Count.{below-more}
 use Rattle.std.specs.Options.{Cases}
 use Rattle.std.specs.declared.option.Option.{Option}
@@ -16,7 +16,7 @@ use Rattle.attributes.proofs.Sets.{missing-less}
 use Rattle.contexts.specs.Contexts.{Implication}
 use Rattle.contexts.specs.Values.{implication-at}
 use Rattle.implications.specs.Implications.{Follows}
-use Rattle.implications.specs.Places.{no-implication, Passed}
+use Rattle.implications.specs.Places.{Passed}
 use Rattle.implications.specs.Values.{implications-in}
 use Rattle.implications.proofs.Passes.{implications-length}
 use Rattle.bases.specs.Compared.{Differs}

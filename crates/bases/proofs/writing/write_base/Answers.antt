@@ -1,9 +1,9 @@
-use mathlib.Core.Path.{_≡_, sym, subst}
+use mathlib.Core.Path.{sym, subst}
 use mathlib.Core.List.{List}
 use Prim.Native.Nat.{ℕ, _+_, _*_, _-_, _^_, _≤_, _<_}
 use native.Mathlib.Omega.{arith}
-use lib.ListN.{length, take}
-use lib.Pow.{pow-mono, pow-pos}
+use lib.ListN.{length}
+use lib.Pow.{pow-mono}
 use Rattle.std.proofs.shelf.Lists.{length-take-le}
 use Rattle.attributes.specs.Sets.{Set}
 use Rattle.bases.proofs.Turns.{Kept, kept-none, kept-few, kept-more, kept-end}
