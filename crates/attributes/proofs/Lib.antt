@@ -2,4 +2,4 @@ pub mod Lectic
 pub mod Members
 pub mod Numbers
 pub mod Sets
-mod Text
+pub mod Text

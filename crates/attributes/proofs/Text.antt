@@ -2,12 +2,14 @@
 use mathlib.Core.Path.{_≡_, refl, sym, ap, _∙_}
 use mathlib.Core.Bool.{Bool, true, false, cond}
 use mathlib.Core.List.{List, [], _∷_, _++_, append-assoc, append-nil}
-use Prim.Native.Nat.{ℕ, suc, _+_, _-_, _/_, _%_, _^_, _<_}
+use Prim.Native.Nat.{ℕ, zero, suc, _+_, _-_, _/_, _%_, _^_, _≤_, _<_}
+use native.Mathlib.Nat.{lt-of-lt-of-le, pow-suc}
 use native.Mathlib.Numerals.{add-one}
 use native.Mathlib.Omega.{arith}
 use lib.Bits.{bitAnd, and-mask}
 use lib.Chars.{codes}
 use lib.Dec.{eqb}
+use lib.Pow.{pow-mono}
 use Rattle.std.proofs.shelf.Tests.{eq-eqb, ne-eqb}
 use Rattle.std.proofs.Writes.{put-more, put-is}
 use Rattle.std.specs.Written.{decimal, Plain, Put}
@@ -71,3 +73,28 @@ module _ {W : Type 0} (took : W → List ℕ → W → Type 0) (bits : ℕ) (f�
       put-is took f₀ (so-far .0) (listed true 0 (set-in 16 bits)) f
       (sym (append-nil (so-far .0)) ∙ ap (λ (l : List ℕ). so-far .0 ++ l) (sym (listed-end first i rest h)) ∙ so-far .2)
       (so-far .1 plain)
+
+-- attributes past those that a number has add nothing to the text
+listed-none : (w c : ℕ) (first : Bool) → listed first c (set-in w 0) ≡ []
+unfolding listed set-in
+listed-none zero c first = refl
+listed-none (suc w) c first = listed-none w (suc c) first
+
+listed-wide : (n w m c : ℕ) (first : Bool) → n ≤ w → m < 2 ^ n → listed first c (set-in w m) ≡ listed first c (set-in n m)
+unfolding listed set-in
+listed-wide zero w m c first h small =
+    let none : m ≡ 0 = omega arith in
+    ap (λ (k : ℕ). listed first c (set-in w k)) none ∙ listed-none w c first
+listed-wide (suc n) zero m c first h small = absurd (omega arith)
+listed-wide (suc n) (suc w) m c first h small =
+    go (eqb (m % 2) 1) (λ second. listed-wide n w (m / 2) (suc c) second (omega arith) (omega (arith, pow-suc 2 n)))
+  where
+    go : (b : Bool) → ((second : Bool) → listed second (suc c) (set-in w (m / 2)) ≡ listed second (suc c) (set-in n (m / 2))) → listed first c (b ∷ set-in w (m / 2)) ≡ listed first c (b ∷ set-in n (m / 2))
+    go true later = ap (λ (text : List ℕ). cond first [] (codes " ") ++ (decimal c ++ text)) (later false)
+    go false later = later first
+
+pub written-wide : (n w m : ℕ) → n ≤ w → m < 2 ^ n → written (set-in w m) ≡ written (set-in n m)
+unfolding written
+written-wide n w m h small =
+    let same : number-of (set-in w m) ≡ number-of (set-in n m) = number-of-set-in w m (lt-of-lt-of-le small (pow-mono h)) ∙ sym (number-of-set-in n m small) in
+    λ j. cond (eqb (same j) 0) (codes "-") (listed-wide n w m 0 true h small j)

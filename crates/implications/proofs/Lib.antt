@@ -1,2 +1,3 @@
-pub mod Respects
+mod Lines
 pub mod Passes
+pub mod Respects

@@ -1,7 +1,7 @@
 // Lists of implications, in a lent row of numbers: a premise and a conclusion in turn.
 ghost use mathlib.Core.Path.{_≡_};
 ghost use mathlib.Core.Bool.{true};
-ghost use Prim.Native.Nat.{ℕ, _*_, _+_, _/_, _^_, _<_};
+ghost use Prim.Native.Nat.{ℕ, _*_, _+_, _/_, _^_, _≤_, _<_};
 ghost use lib.ListN.{length, getD};
 ghost use Rattle.std.specs.Options.{Cases};
 ghost use Rattle.std.specs.Orderings.{Decides};
@@ -16,11 +16,14 @@ use attributes::AttributeSetPartialEq;
 use contexts::Implication;
 
 mod laws;
+mod listed;
 
 pub use laws::follows_by_closure;
 pub use laws::meet_respects;
 pub use laws::one_closure;
 pub use laws::one_set_decides;
+pub use listed::Listed;
+pub use listed::ListedDisplay;
 
 // The place of the first implication that a set breaks.
 pub fn first_broken(n: AttributeCount, implications: &[u64], s: AttributeSet) -> Option<usize>
@@ -64,12 +67,11 @@ fn grow(n: AttributeCount, implications: &[u64], s: AttributeSet) -> AttributeSe
 }
 
 // Adds the conclusions of the implications whose premises are inside, once in the list's order.
-fn pass(n: AttributeCount, implications: &[u64], s: AttributeSet) -> AttributeSet
-    requires { ⌜ s .bits < 2 ^ n .value ⌝ }
+pub fn pass(n: AttributeCount, implications: &[u64], s: AttributeSet) -> AttributeSet
     ensures value { λ r. ⌜ Passed (n .value) (implications-in (n .value) (now (implications .entry))) (set-in (n .value) (s .bits)) (set-in (n .value) (r .bits)) ⌝ }
     ensures bound { λ r. ⌜ r .bits < 2 ^ n .value ⌝ }
 {
-    let mut grown = s;
+    let mut grown = s.within(n);
     for place in 0..implications.len() / 2 {
         let implication = implication_at(n, implications, place);
         if implication.premise.is_subset_of(grown) {
@@ -79,7 +81,19 @@ fn pass(n: AttributeCount, implications: &[u64], s: AttributeSet) -> AttributeSe
     grown
 }
 
-// The implication at a place of the list.
+// The implication at a place of the list; None past its end.
+pub fn nth(n: AttributeCount, implications: &[u64], place: usize) -> Option<Implication>
+    ensures value { λ r. ⌜ Cases r (length (now (implications .entry)) / 2 ≤ place) (λ i. (place < length (now (implications .entry)) / 2) × (implication-at (n .value) i ≡ getD (implications-in (n .value) (now (implications .entry))) place no-implication)) ⌝ }
+    ensures bound { λ r. ⌜ Cases r (Unit {0}) (λ i. (i .premise .bits < 2 ^ n .value) × (i .conclusion .bits < 2 ^ n .value)) ⌝ }
+{
+    if place < implications.len() / 2 {
+        Some(implication_at(n, implications, place))
+    } else {
+        None
+    }
+}
+
+// The implication at a place that the list has.
 fn implication_at(n: AttributeCount, implications: &[u64], place: usize) -> Implication
     requires { ⌜ place < length (now implications) / 2 ⌝ }
     ensures value { λ r. ⌜ implication-at (n .value) r ≡ getD (implications-in (n .value) (now (implications .entry))) place no-implication ⌝ }

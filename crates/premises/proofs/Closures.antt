@@ -10,7 +10,6 @@ use Rattle.std.specs.shelf.Lists.{All, Has, kept-by}
 use Rattle.std.proofs.shelf.Elements.{all-from-getD, all-kept-by, all-has, kept-by-passes, has-getD}
 use Rattle.std.proofs.shelf.Tests.{both-ways}
 use Rattle.attributes.specs.Lectic.{sets}
-use Rattle.attributes.specs.Numbers.{set-in}
 use Rattle.attributes.specs.Sets.{Set, subset, meet, everything}
 use Rattle.attributes.proofs.Lectic.{lectic-agrees}
 use Rattle.attributes.proofs.Members.{has-there, has-cases}
@@ -42,9 +41,16 @@ has-kept {X} test (y ∷ xs) x h p = go (test y) refl (has-cases y xs x h) (λ m
     go false e (inr m) later = later m
 
 module _ (n : ℕ) (is : List Implication) where
-  respecting-width : Of-width n (respecting n is)
+  pub respecting-width : Of-width n (respecting n is)
   respecting-width = all-kept-by (λ (s : Set). respects-all s is) (λ (s : Set). length s ≡ n) (sets n)
       (all-from-getD (λ (s : Set). length s ≡ n) (sets n) [] (λ i h. lectic-agrees n .wide i (omega (arith, lectic-agrees n .count))))
+
+  -- each set that respects the list is among them
+  pub has-respecting : (t : Set) → length t ≡ n → respects-all t is ≡ true → Has (respecting n is) t
+  has-respecting t w r =
+      let at = lectic-agrees n .listed t w in
+      let among : Has (sets n) t = rw (at .2) at (has-getD (sets n) (at .0) [] (omega (arith, at .1, lectic-agrees n .count))) in
+      has-kept (λ (t : Set). respects-all t is) (sets n) t among r
 
   -- what sets that respect a list have in common respects it
   common-respects : All (Over n) is → (t : Context) (s : Set) → All (λ (o : Set). respects-all o is ≡ true) t → respects-all (common n t s) is ≡ true
@@ -62,8 +68,5 @@ module _ (n : ℕ) (is : List Implication) where
         width = length-common n (respecting n is) s respecting-width;
         contains = common-contains n (respecting n is) s e;
         respected = common-respects over (respecting n is) s (kept-by-passes (λ (t : Set). respects-all t is) (sets n));
-        least = λ t w h r.
-            let at = lectic-agrees n .listed t w in
-            let among : Has (sets n) t = rw (at .2) at (has-getD (sets n) (at .0) [] (omega (arith, at .1, lectic-agrees n .count))) in
-            common-inside n (respecting n is) s t (has-kept (λ (t : Set). respects-all t is) (sets n) t among r) h;
+        least = λ t w h r. common-inside n (respecting n is) s t (has-respecting t w r) h;
       }
