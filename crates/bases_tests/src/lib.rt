@@ -15,6 +15,8 @@ mod tests {
     use bases::implications_of;
     use bases::list_from_bytes;
     use contexts::ImplicationDisplay;
+    use implications::Listed;
+    use implications::ListedDisplay;
     use implications::nth;
     use std::test::*;
 
@@ -90,6 +92,20 @@ mod tests {
         at(&rt, 9, base.as_slice(), 9, "0 1 2 6 7 8: 0 1 2 3 4 5 6 7 8")?;
         check(base.len() > 22)?;
         check_eq(base[22], 7).note("what stands behind the list is as it was")
+    }
+
+    // The yard of the worked dialogue: the base is what that dialogue confirms.
+    #[test]
+    fn worked_yard(rt: LibcRuntime) -> Result<(), Fail> {
+        let yard = [5, 6, 0b00111, 0b01001, 0b01111, 0b11001, 0b00000, 0b00100];
+        let mut base = vec![in rt.alloc(); 7u64; BASE_LENGTH]?;
+        let _ = base_of_context(&yard, base.as_mut_slice());
+        let Some(n) = AttributeCount::new(5) else {
+            return Err(Fail::new("five is too many"));
+        };
+        let implications = implications_of(base.as_slice());
+        let text = format!(rt.alloc(), "{}", Listed { n, implications })?;
+        check_eq(text.as_str(), "4: 0 3 4\n3: 0 3\n1: 0 1 2\n0 2: 0 1 2\n")
     }
 
     #[test]
