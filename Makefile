@@ -1,4 +1,4 @@
-# make run: prove and build the program, hold the worked dialogue with it, and print what it prints
+# make run: prove and build the program, hold the worked dialogue with it, and print it
 # make test: the gate
 
 .PHONY: run test
