@@ -1,4 +1,5 @@
 // Sets of attributes as bit masks, and how many attributes there are.
+#![tactic(auto)]
 
 mod count;
 mod laws;

@@ -1,6 +1,5 @@
 // An attribute set.
 ghost use Rattle.std.specs.Prelude.{◌≡◌, ℕ, ◌^◌, ◌<◌, ◌≤◌, true, not, [], ◌++◌, set, if◌then◌else◌, Some, codes, decimal, MatchOption, slice_set};
-ghost use Rattle.std.specs.Option.{MatchOption};
 ghost use Rattle.std.specs.Fmt.{WritesOnOk};
 ghost use Rattle.attributes.specs.Numbers.{number_of, set_in};
 ghost use Rattle.attributes.specs.Lectic.{precedes};
@@ -184,7 +183,7 @@ impl fmt::Display for AttributeSet {
 }
 
 fn write_list<W: fmt::Write>(bits: u16, f: &mut fmt::Formatter<W>) -> fmt::Result
-    ensures { WritesOnOk write_str_gives f.old result (listed true 0 (set_in 16 bits)) f.new }
+    ensures { WritesOnOk W.write_str_gives f.old result (listed true 0 (set_in 16 bits)) f.new }
 {
     let mut rest = bits;
     let mut first = true;
@@ -199,7 +198,7 @@ fn write_list<W: fmt::Write>(bits: u16, f: &mut fmt::Formatter<W>) -> fmt::Resul
 }
 
 fn write_next<W: fmt::Write>(first: bool, attribute: u8, f: &mut fmt::Formatter<W>) -> fmt::Result
-    ensures { WritesOnOk write_str_gives f.old result ((if first then [] else codes " ") ++ decimal attribute) f.new }
+    ensures { WritesOnOk W.write_str_gives f.old result ((if first then [] else codes " ") ++ decimal attribute) f.new }
 {
     if !first {
         f.write_str(" ")?;
@@ -214,23 +213,23 @@ fn write_next<W: fmt::Write>(first: bool, attribute: u8, f: &mut fmt::Formatter<
 fn digits(attribute: u8) -> Option<&'static str>
     ensures { MatchOption result (16 ≤ attribute) (λ text. text.now ≡ decimal attribute) }
 {
-    Some(match attribute {
-        0 => "0",
-        1 => "1",
-        2 => "2",
-        3 => "3",
-        4 => "4",
-        5 => "5",
-        6 => "6",
-        7 => "7",
-        8 => "8",
-        9 => "9",
-        10 => "10",
-        11 => "11",
-        12 => "12",
-        13 => "13",
-        14 => "14",
-        15 => "15",
-        _ => return None,
-    })
+    match attribute {
+        0 => Some("0"),
+        1 => Some("1"),
+        2 => Some("2"),
+        3 => Some("3"),
+        4 => Some("4"),
+        5 => Some("5"),
+        6 => Some("6"),
+        7 => Some("7"),
+        8 => Some("8"),
+        9 => Some("9"),
+        10 => Some("10"),
+        11 => Some("11"),
+        12 => Some("12"),
+        13 => Some("13"),
+        14 => Some("14"),
+        15 => Some("15"),
+        _ => None,
+    }
 }

@@ -1,4 +1,6 @@
 // The least list of implications for a context and for a list.
+#![tactic(auto)]
+
 ghost use Rattle.std.specs.Prelude.{◌≡◌, length, None};
 ghost use Rattle.premises.specs.Forced.{respecting};
 ghost use Rattle.bases.specs.Laws.{ExploredBase, Shortest};

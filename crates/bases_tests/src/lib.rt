@@ -1,4 +1,5 @@
 // Tests of bases and comparisons: on the textbook context of living beings and water (implications_tests has its attributes), and on lists.
+#![tactic(auto)]
 
 #[cfg(test)]
 mod tests {

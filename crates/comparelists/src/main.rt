@@ -1,5 +1,7 @@
 // Compares two lists of implications, read from standard input: a byte for the number of attributes, and then each list, two bytes for its
 // count and four for each implication.
+#![tactic(auto)]
+
 use anyhow::anyhow;
 use attributes::AttributeCount;
 use bases::{BASE_LENGTH, Refusal, Reply, base_of_list, implications_of};

@@ -1,4 +1,6 @@
 // Comparing two lists.
+#![tactic(auto)]
+
 ghost use Rattle.std.specs.Prelude.{◌≡◌, Some, Decides, MatchOption};
 ghost use Rattle.std.specs.List.{AllByRecursion};
 ghost use Rattle.implications.specs.Implications.{Follows};

@@ -1,4 +1,6 @@
 // Objects by their attributes, in a lent row of numbers: what they have in common, and whether implications hold for them.
+#![tactic(auto)]
+
 ghost use Rattle.std.specs.Prelude.{◌≡◌, ℕ, ◌^◌, ◌<◌, ◌≤◌, true, length, MatchOption};
 ghost use Rattle.attributes.specs.Numbers.{set_in};
 ghost use Rattle.contexts.specs.Contexts.{common, holds};

@@ -1,4 +1,6 @@
 // What an exploration promises. Each promise is the contract of a function that does nothing else.
+#![tactic(auto)]
+
 ghost use Rattle.dialogues.specs.Promise.{MainPromise, SameImplications, TruthIsTaken, NothingSettledIsAsked, NeverGoesBack, FewOfEach, AnswersBounded, CanBeFinished, AlwaysRoom, NoneIsSpare};
 ghost use Rattle.dialogues.specs.Worked.{WorkedDialogue};
 

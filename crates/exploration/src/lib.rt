@@ -1,4 +1,6 @@
 // Attribute exploration: the dialogue over lent memory.
+#![tactic(auto)]
+
 ghost use Rattle.std.specs.Prelude.{◌≡◌};
 ghost use Rattle.exploration.specs.Answers.{judged_row, reply_after, row_after};
 ghost use Rattle.exploration.specs.Row.{asked_of, opening, opened};

@@ -1,4 +1,5 @@
 // Tests of the exploration on examples.
+#![tactic(auto)]
 
 #[cfg(test)]
 mod tests {

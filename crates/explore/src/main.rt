@@ -1,4 +1,6 @@
 // Holds a dialogue over standard input: a byte for the number of attributes, and then the answers, two bytes each.
+#![tactic(auto)]
+
 use anyhow::anyhow;
 use exploration::{Dialogue, NotHeld, ROW_LENGTH, take_all};
 use reading::answers_from;

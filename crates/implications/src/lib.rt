@@ -1,4 +1,6 @@
 // Lists of implications, in a lent row of numbers: a premise and a conclusion in turn.
+#![tactic(auto)]
+
 ghost use Rattle.std.specs.Prelude.{◌≡◌, ℕ, ◌+◌, ◌*◌, ◌/◌, ◌^◌, ◌<◌, ◌≤◌, true, length, IfSome, Decides, MatchOption, slice_index_or};
 ghost use Rattle.attributes.specs.Numbers.{set_in};
 ghost use Rattle.contexts.specs.Values.{implication_at};

@@ -1,6 +1,7 @@
 // Tests of attribute sets, contexts and implications on a context from the textbook of Ganter and Wille, "Formal Concept Analysis", 1999:
 // living beings and water. Attributes: 0 needs water to live, 1 lives in water, 2 lives on land, 3 needs chlorophyll, 4 has two seed leaves,
 // 5 has one seed leaf, 6 can move around, 7 has limbs, 8 suckles its offspring.
+#![tactic(auto)]
 
 #[cfg(test)]
 mod tests {

@@ -1,4 +1,6 @@
 // The premise of the next question: the first open set, found without going through all sets.
+#![tactic(auto)]
+
 ghost use Rattle.std.specs.Prelude.{◌≡◌, ◌^◌, ◌<◌, IfSome};
 ghost use Rattle.std.specs.Option.{option_map};
 ghost use Rattle.attributes.specs.Numbers.{set_in};

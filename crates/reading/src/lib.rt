@@ -1,4 +1,6 @@
 // Answers, contexts and lists read from bytes.
+#![tactic(auto)]
+
 mod answers;
 mod rows;
 

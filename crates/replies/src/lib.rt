@@ -1,4 +1,6 @@
 // What the entries of an exploration reply, and how it is told.
+#![tactic(auto)]
+
 mod reply;
 mod turn;
 

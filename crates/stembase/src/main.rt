@@ -1,4 +1,6 @@
 // Prints the base of a context, read from standard input: a byte for the number of attributes, and then two bytes for each object.
+#![tactic(auto)]
+
 use anyhow::anyhow;
 use attributes::AttributeCount;
 use bases::{BASE_LENGTH, Reply, base_of_context, implications_of};

@@ -1,4 +1,5 @@
 // Tests that run the proved code on drawn yards and rows and compare it with naive computations, and on contexts whose bases are known.
+#![tactic(auto)]
 
 #[cfg(test)]
 mod answers;

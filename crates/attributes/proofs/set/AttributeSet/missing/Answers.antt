@@ -15,8 +15,8 @@ all c =
     let masked : bit_and m c.everything.result.bits ≡ m % 2 ^ n = ap (bit_and m) c.everything.ensures ∙ everything_mask m n in
     omega (arith, ap ones masked, ap missing (set_in_mod n m), missing_bits n (m % 2 ^ n) (mod_below m (2 ^ n) (pow_pos n)))
 
-pub overflow-sub-result : goal.overflow-sub-result
-overflow-sub-result c = omega (arith, all c, c.from.ensures, c.get.ensures.value)
+pub overflow_sub-result : goal.overflow_sub-result
+overflow_sub-result c = omega (arith, all c, c.from.ensures, c.get.ensures.value)
 
 pub returns : goal.returns
 returns c = omega (arith, all c, c.from.ensures, c.get.ensures.value)

@@ -3,8 +3,8 @@ use Rattle.attributes.specs.Sets.{complement}
 use Rattle.attributes.proofs.Numbers.{number_of_everything, complement_bits}
 use Rattle.attributes.proofs.set.AttributeSet.outside.Goals as goal
 
-pub overflow-sub-result : goal.overflow-sub-result
-overflow-sub-result c = omega (arith, c.everything.ensures, number_of_everything c.args.n.value, c.within.ensures.bound)
+pub overflow_sub-result : goal.overflow_sub-result
+overflow_sub-result c = omega (arith, c.everything.ensures, number_of_everything c.args.n.value, c.within.ensures.bound)
 
 pub returns : goal.returns
 returns c =
