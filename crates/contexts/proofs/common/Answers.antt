@@ -1,4 +1,5 @@
 use Rattle.std.proofs.Common.{◌≡◌, ℕ, suc, ◌^◌, ◌<◌, ◌≤◌, List, length, get_or, sym, ap, ◌∙◌, arith}
+use Rattle.std.proofs.lemmas.Bool.{eqb-true}
 use Rattle.attributes.specs.Numbers.{set_in}
 use Rattle.attributes.specs.Sets.{Set, meet}
 use Rattle.attributes.proofs.Numbers.{number_of_everything, set_in_everything, length_set_in}
@@ -35,7 +36,7 @@ returns-then-eq c =
     in
     record {
       value =
-          shared_least n row asked (length_set_in n c.within-asked.result.bits) c.in-Some.place (ap (set_in n) (sym (c.eq.ensures.0 c.if-eq.true)) ∙ shared)
+          shared_least n row asked (length_set_in n c.within-asked.result.bits) c.in-Some.place (ap (set_in n) (sym (eqb-true c.meet-shared.result.bits c.within-asked.result.bits (sym c.eq.ensures ∙ c.if-eq.true))) ∙ shared)
           ∙ ap (common n (objects_in n row)) c.within-asked.ensures.value;
       bound = c.within-asked.ensures.bound;
     }
@@ -57,7 +58,7 @@ returns c =
     let n : ℕ = c.args.n.value in
     let row : List ℕ = c.args.objects.now in
     let asked : Set = set_in n c.within-asked.result.bits in
-    let none = c.in-default.ensures n (omega (arith, c.args.n.few)) c.within-asked.ensures.bound in
+    let none = c.in_default.ensures n (omega (arith, c.args.n.few)) c.within-asked.ensures.bound in
     record {
       value =
           shared_skipped n row asked 0 c.loop-place.end c.loop-place.shared.bits (omega arith) c.loop-place.invariant.0 none c.loop-place.invariant.2

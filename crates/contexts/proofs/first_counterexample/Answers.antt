@@ -7,8 +7,8 @@ use Rattle.contexts.specs.Values.{implication_at, objects_in}
 use Rattle.contexts.proofs.Walks.{test_at, holds_places}
 use Rattle.contexts.proofs.first_counterexample.Goals as goal
 
-pub returns-then-not-is-respected-by : goal.returns-then-not-is-respected-by
-returns-then-not-is-respected-by c =
+pub returns-then-not-is_respected_by : goal.returns-then-not-is_respected_by
+returns-then-not-is_respected_by c =
     let n : ℕ = c.args.n.value in
     let row : List ℕ = c.args.objects.now in
     let t : Context = objects_in n row in
@@ -19,9 +19,9 @@ returns-then-not-is-respected-by c =
     record {
       inside = omega (arith, length-map row (set_in n));
       breaks =
-          rw (← c.if-not-is-respected-by.true)
-          (test_at n row k c.lowest.result.bits tested c.is-respected-by.result at c.lowest.ensures.value
-          (c.is-respected-by.ensures n c.within-asked.ensures.premise c.within-asked.ensures.conclusion));
+          rw (← c.if-not-is_respected_by.true)
+          (test_at n row k c.lowest.result.bits tested c.is_respected_by.result at c.lowest.ensures.value
+          (c.is_respected_by.ensures n c.within-asked.ensures.premise c.within-asked.ensures.conclusion));
       before = c.loop-place.invariant;
     }
     in
@@ -35,9 +35,9 @@ loop-place-preserved c =
     let k : ℕ = c.loop-place.place in
     let at : k < length row = omega arith in
     below_more _ k c.loop-place.invariant
-    (rw (← c.if-not-is-respected-by.false)
-    (test_at n row k c.lowest.result.bits tested c.is-respected-by.result at c.lowest.ensures.value
-    (c.is-respected-by.ensures n c.within-asked.ensures.premise c.within-asked.ensures.conclusion)))
+    (rw (← c.if-not-is_respected_by.false)
+    (test_at n row k c.lowest.result.bits tested c.is_respected_by.result at c.lowest.ensures.value
+    (c.is_respected_by.ensures n c.within-asked.ensures.premise c.within-asked.ensures.conclusion)))
 
 pub returns : goal.returns
 returns c =

@@ -4,5 +4,5 @@ use Rattle.contexts.proofs.holds.Goals as goal
 
 pub returns : goal.returns
 returns c =
-    holds_if_none (objects_in c.args.n.value c.args.objects.now) (implication_at c.args.n.value c.args.implication) c.first-counterexample.result c.is-none.result
-    c.first-counterexample.ensures c.is-none.ensures
+    holds_if_none (objects_in c.args.n.value c.args.objects.now) (implication_at c.args.n.value c.args.implication) c.first_counterexample.result c.is_none.result
+    c.first_counterexample.ensures c.is_none.ensures

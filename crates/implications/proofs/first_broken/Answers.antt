@@ -22,12 +22,12 @@ returns-then-meets c =
     let wide : length s ≡ n = length_set_in n c.args.s.bits in
     let there = implication_is n row k c.loop-place-test.true in
     let premise : subset i.premise s ≡ not c.meets.result =
-    inside_test n s i.premise c.outside-outside.result.bits c.of-number.result.bits c.meets.result wide c.outside-outside.ensures.value
-    (c.of-number.ensures n few ∙ ap (λ (i : Implication). i.premise) (sym there)) (c.meets.ensures n c.outside-outside.ensures.bound)
+    inside_test n s i.premise c.outside-outside.result.bits c.of_number.result.bits c.meets.result wide c.outside-outside.ensures.value
+    (c.of_number.ensures n few ∙ ap (λ (i : Implication). i.premise) (sym there)) (c.meets.ensures n c.outside-outside.ensures.bound)
     in
     let conclusion : subset i.conclusion s ≡ not c.meets-then-not-meets.result =
-    inside_test n s i.conclusion c.outside-outside.result.bits c.of-number-then-not-meets.result.bits c.meets-then-not-meets.result wide c.outside-outside.ensures.value
-    (c.of-number-then-not-meets.ensures n few ∙ ap (λ (i : Implication). i.conclusion) (sym there)) (c.meets-then-not-meets.ensures n c.outside-outside.ensures.bound)
+    inside_test n s i.conclusion c.outside-outside.result.bits c.of_number-then-not-meets.result.bits c.meets-then-not-meets.result wide c.outside-outside.ensures.value
+    (c.of_number-then-not-meets.ensures n few ∙ ap (λ (i : Implication). i.conclusion) (sym there)) (c.meets-then-not-meets.ensures n c.outside-outside.ensures.bound)
     in
     record {
       inside = omega (arith, implications_length n row);
@@ -42,15 +42,15 @@ loop-place-preserved c n s few wide small outside =
     let i : Implication = get_or (implications_in n row) k no_implication in
     let there = implication_is n row k c.loop-place-test.true in
     let premise : subset i.premise s ≡ not c.meets.result =
-    inside_test n s i.premise c.outside-outside.result.bits c.of-number.result.bits c.meets.result wide outside
-    (c.of-number.ensures n few ∙ ap (λ (i : Implication). i.premise) (sym there)) (c.meets.ensures n small)
+    inside_test n s i.premise c.outside-outside.result.bits c.of_number.result.bits c.meets.result wide outside
+    (c.of_number.ensures n few ∙ ap (λ (i : Implication). i.premise) (sym there)) (c.meets.ensures n small)
     in
     below_more _ k (c.loop-place.invariant n s few wide small outside)
     (elim c.else-not-meets.branch [
       | else-not-meets-via-then-not-meets+else-meets w ↦
           respects_from s i
-          (λ _. inside_test n s i.conclusion c.outside-outside.result.bits w.of-number-then-not-meets.result.bits w.meets-then-not-meets.result wide outside
-          (w.of-number-then-not-meets.ensures n few ∙ ap (λ (i : Implication). i.conclusion) (sym there)) (w.meets-then-not-meets.ensures n small)
+          (λ _. inside_test n s i.conclusion c.outside-outside.result.bits w.of_number-then-not-meets.result.bits w.meets-then-not-meets.result wide outside
+          (w.of_number-then-not-meets.ensures n few ∙ ap (λ (i : Implication). i.conclusion) (sym there)) (w.meets-then-not-meets.ensures n small)
           ∙ ap not w.if-meets.false)
       | else-not-meets-via-else-not-meets w ↦ respects_from s i (λ p. absurd (both_ways (subset i.premise s) (premise ∙ ap not w.if-not-meets.false) p))
     ])

@@ -13,8 +13,8 @@ returns c =
     let is : List Implication = implications_in n c.args.implications.now in
     let i : Implication = implication_at n c.args.implication in
     let r : Set = set_in n c.close-closure.result.bits in
-    let test : c.is-subset-of.result ≡ subset i.conclusion r =
-    c.is-subset-of.ensures n c.within.ensures.bound ∙ ap (λ (s : Set). subset s r) c.within.ensures.value
+    let test : c.is_subset_of.result ≡ subset i.conclusion r =
+    c.is_subset_of.ensures n c.within.ensures.bound ∙ ap (λ (s : Set). subset s r) c.within.ensures.value
     in
     let law = follows_by_closure n is i r c.close-closure.ensures.value in
     (λ h. law.follows (sym test ∙ h), λ f. test ∙ law.contains f)

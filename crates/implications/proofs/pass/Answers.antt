@@ -9,7 +9,7 @@ use Rattle.implications.specs.Values.{implications_in}
 use Rattle.implications.proofs.Passes.{Passing, passing_none, passing_taken, passing_passed, passing_all}
 use Rattle.implications.proofs.Repairs.{implications_length}
 use Rattle.implications.proofs.pass.Goals as goal
-use Rattle.implications.proofs.pass.Goals.{then-is-subset-of, else-is-subset-of}
+use Rattle.implications.proofs.pass.Goals.{then-is_subset_of, else-is_subset_of}
 
 pub loop-place-init : goal.loop-place-init
 loop-place-init c = (
@@ -24,22 +24,22 @@ loop-place-preserved c =
     let s : Set = set_in n c.within-grown.result.bits in
     let g : Set = set_in n c.loop-place.grown.bits in
     let k : ℕ = c.loop-place.place in
-    let pair = c.implication-at-implication.result in
+    let pair = c.implication_at-implication.result in
     let i : Implication = implication_at n pair in
     let at : k < length is = omega (arith, implications_length n c.args.implications.now) in
-    let test = c.is-subset-of.ensures n c.implication-at-implication.ensures.premise in
-    elim c.if-is-subset-of.branch [
-      | then-is-subset-of w ↦
+    let test = c.is_subset_of.ensures n c.implication_at-implication.ensures.premise in
+    elim c.if-is_subset_of.branch [
+      | then-is_subset_of w ↦
           rw w.grown-is (
-            w.join-grown.ensures.bound n c.loop-place.invariant.0 c.implication-at-implication.ensures.conclusion,
+            w.join-grown.ensures.bound n c.loop-place.invariant.0 c.implication_at-implication.ensures.conclusion,
             rw (w.join-grown.ensures.value n)
-                (passing_taken n is s g k i at c.implication-at-implication.ensures.value c.loop-place.invariant.1
-                (length_set_in n c.loop-place.grown.bits ∙ sym (length_set_in n pair.conclusion.bits)) (sym test ∙ w.if-is-subset-of.true)),
+                (passing_taken n is s g k i at c.implication_at-implication.ensures.value c.loop-place.invariant.1
+                (length_set_in n c.loop-place.grown.bits ∙ sym (length_set_in n pair.conclusion.bits)) (sym test ∙ w.if-is_subset_of.true)),
           )
-      | else-is-subset-of w ↦
+      | else-is_subset_of w ↦
           rw w.grown-is (
             c.loop-place.invariant.0,
-            passing_passed n is s g k i at c.implication-at-implication.ensures.value c.loop-place.invariant.1 (sym test ∙ w.if-is-subset-of.false),
+            passing_passed n is s g k i at c.implication_at-implication.ensures.value c.loop-place.invariant.1 (sym test ∙ w.if-is_subset_of.false),
           )
     ]
 

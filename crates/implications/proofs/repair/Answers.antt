@@ -7,8 +7,8 @@ use Rattle.implications.specs.Values.{implications_in}
 use Rattle.implications.proofs.Repairs.{implications_length}
 use Rattle.implications.proofs.repair.Goals as goal
 
-pub implication-at-requires : goal.implication-at-requires
-implication-at-requires c = omega (arith, c.in-ok-place.ensures.inside, implications_length c.args.n.value c.args.implications.now)
+pub implication_at-requires : goal.implication_at-requires
+implication_at-requires c = omega (arith, c.in_ok-place.ensures.inside, implications_length c.args.n.value c.args.implications.now)
 
 pub returns : goal.returns
 returns c =
@@ -16,7 +16,7 @@ returns c =
     let is : List Implication = implications_in n c.args.implications.now in
     let s : Set = set_in n c.within-s.result.bits in
     let repaired : Repaired is s (set_in n c.join.result.bits) =
-    record { place = c.in-ok-place.place; broken = c.in-ok-place.ensures; added = c.join.ensures.value n ∙ ap (λ (i : Implication). join s i.conclusion) c.implication_at.ensures.value }
+    record { place = c.in_ok-place.place; broken = c.in_ok-place.ensures; added = c.join.ensures.value n ∙ ap (λ (i : Implication). join s i.conclusion) c.implication_at.ensures.value }
     in
     record {
       value = subst (λ (t : Set). Repaired is t (set_in n c.join.result.bits)) c.within-s.ensures.value repaired;

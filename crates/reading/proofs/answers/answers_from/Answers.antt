@@ -8,13 +8,13 @@ loop-byte-preserved c =
     let done : List ℕ = vec_items c.loop-byte.numbers in
     let i : ℕ = c.loop-byte.byte-index in
     let bytes : List ℕ = c.args.bytes.now in
-    let number : ℕ = c.read-byte-number.result.0 in
-    let rest : List ℕ = numbers_in c.read-byte-number.result.1 (drop (i + 1) bytes) in (
-      ap (λ (xs : List ℕ). xs ++ rest) c.in-ok-push.ensures.items
+    let number : ℕ = c.read_byte-number.result.0 in
+    let rest : List ℕ = numbers_in c.read_byte-number.result.1 (drop (i + 1) bytes) in (
+      ap (λ (xs : List ℕ). xs ++ rest) c.in_ok-push.ensures.items
           ∙ append_assoc done (number ∷ []) rest
-          ∙ ap (λ (xs : List ℕ). done ++ xs) (sym (at_drop_more (numbers_in c.loop-byte.higher) bytes i 0 (omega arith) ∙ c.read-byte-number.ensures.number (drop (i + 1) bytes)))
+          ∙ ap (λ (xs : List ℕ). done ++ xs) (sym (at_drop_more (numbers_in c.loop-byte.higher) bytes i 0 (omega arith) ∙ c.read_byte-number.ensures.number (drop (i + 1) bytes)))
           ∙ c.loop-byte.invariant.0,
-      c.read-byte-number.ensures.bound,
+      c.read_byte-number.ensures.bound,
     )
 
 pub returns : goal.returns

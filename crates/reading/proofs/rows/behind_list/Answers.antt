@@ -5,4 +5,4 @@ pub returns-then-bytes-lt2 : goal.returns-then-bytes-lt2
 returns-then-bytes-lt2 c = nothing_left c.args.bytes.now c.if-bytes-lt2.true
 
 pub returns : goal.returns
-returns c = list_left c.args.bytes.now c.list-count.result c.min.result c.list-count.ensures.value c.min.ensures
+returns c = list_left c.args.bytes.now c.list_count.result c.min.result c.list_count.ensures.value c.min.ensures

@@ -9,9 +9,9 @@ pub returns : goal.returns
 returns c =
     let n : ℕ = c.args.n in
     let bytes : List ℕ = c.args.bytes.now in
-    let count : ℕ = c.list-count-count.result in
+    let count : ℕ = c.list_count-count.result in
     let part : List ℕ = take c.min.result (take (length bytes - 2) (drop 2 bytes)) in
-    let counted : count ≡ list_count bytes = c.list-count-count.ensures.value in
+    let counted : count ≡ list_count bytes = c.list_count-count.ensures.value in
     let cut : part ≡ take (4 * list_count bytes) (drop 2 bytes) = list_cut bytes count c.min.result counted c.min.ensures in
     let same : n ∷ (count ∷ pair_numbers Set part) ≡ n ∷ (list_count bytes ∷ pair_numbers Set (take (4 * list_count bytes) (drop 2 bytes))) = λ j. n ∷ (counted j ∷ pair_numbers Set (cut j)) in
-    subst (λ (row : List ℕ). IfOk c.row-of.result (λ v. vec_items v ≡ row)) (cond_above (length bytes) 2 (n ∷ []) _ _ c.if-bytes-lt2.false same) c.row-of.ensures
+    subst (λ (row : List ℕ). IfOk c.row_of.result (λ v. vec_items v ≡ row)) (cond_above (length bytes) 2 (n ∷ []) _ _ c.if-bytes-lt2.false same) c.row_of.ensures

@@ -11,12 +11,12 @@ second_counts : (r p t q : Bool) → r ≡ p → r ≡ true → t ≡ q → t �
 second_counts r true t q e f g = g
 second_counts r false t q e f g = cc
 
-pub returns-then-not-is-subset-of : goal.returns-then-not-is-subset-of
+pub returns-then-not-is_subset_of : goal.returns-then-not-is_subset_of
 unfolding respects
-returns-then-not-is-subset-of c n p q = first_fails c.is-subset-of.result _ _ (c.is-subset-of.ensures n p) c.if-not-is-subset-of.true
+returns-then-not-is_subset_of c n p q = first_fails c.is_subset_of.result _ _ (c.is_subset_of.ensures n p) c.if-not-is_subset_of.true
 
-pub returns-else-not-is-subset-of : goal.returns-else-not-is-subset-of
+pub returns-else-not-is_subset_of : goal.returns-else-not-is_subset_of
 unfolding respects
-returns-else-not-is-subset-of c n p q =
-    second_counts c.is-subset-of.result _ c.is-subset-of-else-not-is-subset-of.result _ (c.is-subset-of.ensures n p) c.if-not-is-subset-of.false
-    (c.is-subset-of-else-not-is-subset-of.ensures n q)
+returns-else-not-is_subset_of c n p q =
+    second_counts c.is_subset_of.result _ c.is_subset_of-else-not-is_subset_of.result _ (c.is_subset_of.ensures n p) c.if-not-is_subset_of.false
+    (c.is_subset_of-else-not-is_subset_of.ensures n q)

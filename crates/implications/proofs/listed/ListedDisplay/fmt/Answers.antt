@@ -17,13 +17,13 @@ loop-place-preserved g c =
     let n : ℕ = c.args.self.now.n.value in
     let row : List ℕ = c.args.self.now.implications.now in
     let k : ℕ = c.loop-place.place in
-    let found = c.implication-at-implication in
+    let found = c.implication_at-implication in
     let p : ℕ = found.result.premise.bits in
     let q : ℕ = found.result.conclusion.bits in
     lines_more g.W.Write.write_str_gives (implications_in n row) c.args.f.now c.loop-place.f k c.loop-place.invariant c.writeln.new.self
     ((written (set_in 16 p) ++ (codes ": " ++ written (set_in 16 q))) ++ codes "\n") (omega (arith, c.loop-place-test.true, implications_length n row))
     (line_is n p q (get_or (implications_in n row) k no_implication) (omega (arith, c.args.self.now.n.few)) found.ensures.premise found.ensures.conclusion found.ensures.value)
-    (λ plain. c.in-ok-writeln.ensures.shows plain refl)
+    (λ plain. c.in_ok-writeln.ensures.writes plain refl)
 
 pub returns-clause-writes : goal.returns-clause-writes
 returns-clause-writes g c plain ok =
