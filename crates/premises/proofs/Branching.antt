@@ -1,12 +1,12 @@
 -- How the search for the first open set branches at an attribute. Assumes nothing.
-use Rattle.std.proofs.Common.{◌≡◌, ℕ, zero, suc, ◌+◌, ◌<◌, ◌≤◌, Bool, true, false, not, ◌||◌, ◌⊎◌, List, [], ◌∷◌, length, set, is_some, Some, None, Option, sym, refl, ap, ◌∙◌, inl, inr, arith, below_more}
+use Rattle.std.proofs.Common.{◌≡◌, ℕ, zero, suc, ◌+◌, ◌^◌, ◌<◌, ◌≤◌, Bool, true, false, not, ◌||◌, ◌⊎◌, List, [], ◌∷◌, length, set, is_some, Some, None, Option, sym, refl, ap, ◌∙◌, inl, inr, arith, below_more}
 use Rattle.std.proofs.lemmas.List.{ext_get_or, get_or-set_same, get_or-set_other, set_past}
 use Rattle.std.proofs.lemmas.Bool.{both_ways, cases_Bool, cases_eq, cases_lt}
 use Rattle.attributes.specs.Lectic.{precedes}
-use Rattle.attributes.specs.Numbers.{set_in}
+use Rattle.attributes.specs.Numbers.{set_in, number_of}
 use Rattle.attributes.specs.Sets.{Set, subset, has}
 use Rattle.attributes.proofs.Lectic.{order_laws}
-use Rattle.attributes.proofs.Numbers.{has_narrow, length_set_in}
+use Rattle.attributes.proofs.Numbers.{has_narrow, length_set_in, number_of_set_in}
 use Rattle.attributes.proofs.Sets.{subset_has, has_subset, subset_refl, subset_trans}
 use Rattle.contexts.specs.Contexts.{Implication}
 use Rattle.implications.specs.Implications.{respects_all, Closure}
@@ -259,3 +259,7 @@ pub agree_same : (n i a b : ℕ) → i ≤ n → Agree i (set_in n a) (set_in n 
 agree_same n i a b l agree =
     ext_get_or false (set_in i a) (set_in i b) (length_set_in i a ∙ sym (length_set_in i b))
     (λ c h. let less : c < i = omega (arith, length_set_in i a) in sym (has_narrow i n a c less l) ∙ agree c less ∙ has_narrow i n b c less l)
+
+-- numbers below 2 ^ i that stand for the same set are the same
+pub same_number : (i p q : ℕ) → p < 2 ^ i → q < 2 ^ i → set_in i p ≡ set_in i q → p ≡ q
+same_number i p q a b e = sym (number_of_set_in i p a) ∙ ap number_of e ∙ number_of_set_in i q b

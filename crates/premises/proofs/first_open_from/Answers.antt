@@ -19,7 +19,7 @@ returns g c =
     let closed : Closure n is (set_in n 0) least = subst (λ (m : ℕ). Closure n is (set_in n m) least) c.empty.ensures c.close-least.ensures.value in
     record {
       value =
-          found_from n forced is (set_in n c.within.result.bits) least closed (option_map (λ (q : AttributeSet). set_in n q.bits) c.first-in-branch.result) c.first-in-branch.ensures.found
+          found_from n forced is (set_in n c.within.result.bits) least closed (option_map (λ (q : AttributeSet). set_in n q.bits) c.first_in_branch.result) c.first_in_branch.ensures.found
           ∙ ap (first_open_from n forced is) c.within.ensures.value;
-      bound = c.first-in-branch.ensures.bound;
+      bound = c.first_in_branch.ensures.bound;
     }

@@ -1,20 +1,12 @@
-use Rattle.std.proofs.Common.{◌≡◌, ℕ, ◌^◌, ◌<◌, Bool, true, false, not, List, sym, refl, ap, ◌∙◌, lt_of_lt_of_le, arith, pow_mono}
-use Rattle.std.proofs.lemmas.Bool.{both_ways, not-true}
+use Rattle.std.proofs.Common.{◌==◌, ◌≡◌, ℕ, ◌^◌, ◌<◌, Bool, true, false, not, List, sym, refl, ap, ◌∙◌, lt_of_lt_of_le, arith, pow_mono}
+use Rattle.std.proofs.lemmas.Bool.{both_ways, not-true, not-false, eq-eqb, eqb-true}
 use Rattle.attributes.specs.Numbers.{set_in, number_of}
 use Rattle.attributes.specs.Sets.{Set}
 use Rattle.attributes.proofs.Numbers.{length_set_in, number_of_set_in}
 use Rattle.implications.proofs.Repairs.{repaired_less}
-use Rattle.premises.proofs.Branching.{same_agree, agree_same}
+use Rattle.premises.proofs.Branching.{same_agree, agree_same, same_number}
 use Rattle.premises.proofs.Stepping.{growing_start, growing_more, growing_agrees, growing_all}
 use Rattle.premises.proofs.respecting.least_with.Goals as goal
-
--- numbers below 2 ^ i that stand for the same set are the same
-same_number : (i p q : ℕ) → p < 2 ^ i → q < 2 ^ i → set_in i p ≡ set_in i q → p ≡ q
-same_number i p q a b e = sym (number_of_set_in i p a) ∙ ap number_of e ∙ number_of_set_in i q b
-
-not_false : (x : Bool) → not x ≡ false → x ≡ true
-not_false true e = refl
-not_false false e = sym e
 
 pub loop-more-init : goal.loop-more-init
 loop-more-init c =
@@ -33,13 +25,15 @@ returns-then-ne c =
     let s : ℕ = c.args.s.bits in
     let more : ℕ = c.in-Some.more.bits in
     let r : Set = set_in n c.loop-more.reached.bits in
+    let below_more : ℕ = c.below-in-Some.result.bits in
+    let below_s : ℕ = c.below-in-Some-2.result.bits in
     record {
       value = λ t m.
           let agrees = growing_agrees n c.args.implications.now (set_in n s) i r c.loop-more.invariant.1 (set_in n more) (length_set_in n c.loop-more.reached.bits) c.in-Some.ensures.value t m in
           let same : set_in i s ≡ set_in i more = agree_same n i s more (omega (arith, c.requires)) agrees in
-          both_ways c.ne.ensures.0 (not-true c.ne.ensures.0 (sym c.ne.ensures.2 ∙ c.if-ne.true))
-          (c.ne.ensures.1.1
-          (same_number i c.below-in-Some.result.bits c.below-in-Some-2.result.bits c.below-in-Some.ensures.bound c.below-in-Some-2.ensures.bound
+          both_ways (below_more == below_s) (not-true (below_more == below_s) (sym c.ne.ensures ∙ c.if-ne.true))
+          (eq-eqb below_more below_s
+          (same_number i below_more below_s c.below-in-Some.ensures.bound c.below-in-Some-2.ensures.bound
           (c.below-in-Some.ensures.value ∙ sym same ∙ sym c.below-in-Some-2.ensures.value)));
       bound = tt;
     }
@@ -56,8 +50,10 @@ loop-more-preserved c =
     let s : ℕ = c.args.s.bits in
     let more : ℕ = c.in-Some.more.bits in
     let r : Set = set_in n c.loop-more.reached.bits in
+    let below_more : ℕ = c.below-in-Some.result.bits in
+    let below_s : ℕ = c.below-in-Some-2.result.bits in
     let same : set_in i s ≡ set_in i more =
-    sym c.below-in-Some-2.ensures.value ∙ ap (set_in i) (sym (c.ne.ensures.1.0 (not_false c.ne.ensures.0 (sym c.ne.ensures.2 ∙ c.if-ne.false)))) ∙ c.below-in-Some.ensures.value
+    sym c.below-in-Some-2.ensures.value ∙ ap (set_in i) (sym (eqb-true below_more below_s (not-false (below_more == below_s) (sym c.ne.ensures ∙ c.if-ne.false)))) ∙ c.below-in-Some.ensures.value
     in (
       c.in-Some.ensures.bound,
       growing_more n c.args.implications.now (set_in n s) i r c.loop-more.invariant.1 (set_in n more) (length_set_in n c.loop-more.reached.bits) c.in-Some.ensures.value
@@ -70,6 +66,6 @@ returns c =
     record {
       value =
           growing_all n c.args.implications.now (set_in n c.args.s.bits) c.args.attribute (set_in n c.loop-more.reached.bits) c.loop-more.invariant.1
-          (length_set_in n c.loop-more.reached.bits) c.in-default.ensures.value;
+          (length_set_in n c.loop-more.reached.bits) c.in_default.ensures.value;
       bound = c.loop-more.invariant.0;
     }

@@ -17,8 +17,8 @@ found_some : (n : ℕ) (is : List Implication) (s : Set) (a : ℕ) → length s 
 found_some n is s a w later lacks None e h = absurd (true≢false (sym e))
 found_some n is s a w later lacks (Some m) e h = next_found n is s w a (set_in n m.bits) h lacks later
 
-pub returns-then-is-some : goal.returns-then-is-some
-returns-then-is-some c =
+pub returns-then-is_some : goal.returns-then-is_some
+returns-then-is_some c =
     let n : ℕ = c.args.n.value in
     let is : List Implication = implications_in n c.args.implications.now in
     let s : Set = set_in n c.args.s.bits in
@@ -27,8 +27,8 @@ returns-then-is-some c =
     record {
       value =
           found_some n is s (a - 1) (length_set_in n c.args.s.bits) (subst (NoneFrom n is s) at c.loop-attribute.invariant.1)
-          (sym (c.contains.ensures n c.requires) ∙ c.if-not-contains.true) c.least-with-next.result (sym c.is-some.ensures ∙ c.if-is-some.true) c.least-with-next.ensures.value;
-      bound = c.least-with-next.ensures.bound;
+          (sym (c.contains.ensures n c.requires) ∙ c.if-not-contains.true) c.least_with-next.result (sym c.is_some.ensures ∙ c.if-is_some.true) c.least_with-next.ensures.value;
+      bound = c.least_with-next.ensures.bound;
     }
 
 pub returns : goal.returns

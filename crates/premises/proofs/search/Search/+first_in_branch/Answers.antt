@@ -15,21 +15,21 @@ use Rattle.premises.proofs.Branching.{last_found, last_none, kept_found, NoneWit
 use Rattle.premises.proofs.Closures.{closure_is_common, implications_over}
 use Rattle.premises.proofs.Open.{open_from, shut_from}
 use Rattle.premises.proofs.search.Search.+first_in_branch.Goals as goal
-use Rattle.premises.proofs.search.Search.+first_in_branch.Goals.{then-beyond+else-is-some, else-beyond}
+use Rattle.premises.proofs.search.Search.+first_in_branch.Goals.{then-beyond+else-is_some, else-beyond}
 
 some_mapped : (n : ℕ) (r : Option AttributeSet) → is_some (option_map (λ (q : AttributeSet). set_in n q.bits) r) ≡ is_some r
 some_mapped n None = refl
 some_mapped n (Some q) = refl
 
-pub returns-then-lacks-forced : goal.returns-then-lacks-forced
-returns-then-lacks-forced g t c =
+pub returns-then-lacks_forced : goal.returns-then-lacks_forced
+returns-then-lacks_forced g t c =
     let n : ℕ = c.args.self.now.n.value in
     let s : Set = set_in n c.args.s.bits in
     let from : Set = set_in n c.args.self.now.from.bits in
     let is : List Implication = implications_in n c.args.self.now.confirmed.now in
     let forced : Set → Set = g.F.Forces.forced c.args.self.now.forces.now n in
     let last : n ≡ c.args.attribute = sym (c.if-attribute-get.true ∙ c.get.ensures.value) in
-    let lacks = not-true _ (sym c.lacks-forced.ensures ∙ c.if-lacks-forced.true) in
+    let lacks = not-true _ (sym c.lacks_forced.ensures ∙ c.if-lacks_forced.true) in
     record {
       found =
           subst (λ (i : ℕ). FirstInBranch n i s from c.args.past (is_open forced is) s) last
@@ -46,7 +46,7 @@ returns-then-attribute-get g t c =
     let is : List Implication = implications_in n c.args.self.now.confirmed.now in
     let forced : Set → Set = g.F.Forces.forced c.args.self.now.forces.now n in
     let last : n ≡ c.args.attribute = sym (c.if-attribute-get.true ∙ c.get.ensures.value) in
-    let shut = not-false _ (sym c.lacks-forced.ensures ∙ c.if-lacks-forced.false) in
+    let shut = not-false _ (sym c.lacks_forced.ensures ∙ c.if-lacks_forced.false) in
     record {
       found = rw (← last) (last_none n s from c.args.past (length_set_in n c.args.s.bits) (is_open forced is) (shut_from forced is s (λ _. shut)));
       bound = tt;
@@ -61,29 +61,29 @@ returns-then-contains g t c =
     let forced : Set → Set = g.F.Forces.forced c.args.self.now.forces.now n in
     record {
       found =
-          kept_found n c.args.attribute s from c.args.past c.is-beyond-beyond.result (length_set_in n c.args.self.now.from.bits) c.requires.even c.is-beyond-beyond.ensures
-          (sym (c.contains.ensures n c.requires.bound) ∙ c.if-contains.true) (is_open forced is) _ c.first-in-branch.ensures.found;
-      bound = c.first-in-branch.ensures.bound;
+          kept_found n c.args.attribute s from c.args.past c.is_beyond-beyond.result (length_set_in n c.args.self.now.from.bits) c.requires.even c.is_beyond-beyond.ensures
+          (sym (c.contains.ensures n c.requires.bound) ∙ c.if-contains.true) (is_open forced is) _ c.first_in_branch.ensures.found;
+      bound = c.first_in_branch.ensures.bound;
     }
 
-pub returns-then-is-some : goal.returns-then-is-some
-returns-then-is-some g t c =
+pub returns-then-is_some : goal.returns-then-is_some
+returns-then-is_some g t c =
     let n : ℕ = c.args.self.now.n.value in
     let s : Set = set_in n c.args.s.bits in
     let from : Set = set_in n c.args.self.now.from.bits in
     let is : List Implication = implications_in n c.args.self.now.confirmed.now in
     let forced : Set → Set = g.F.Forces.forced c.args.self.now.forces.now n in
-    let r : Option AttributeSet = c.first-in-branch-without.result in
+    let r : Option AttributeSet = c.first_in_branch-without.result in
     record {
       found =
-          without_some n c.args.attribute s from c.args.past c.is-beyond-beyond.result (length_set_in n c.args.self.now.from.bits) c.requires.even c.is-beyond-beyond.ensures
+          without_some n c.args.attribute s from c.args.past c.is_beyond-beyond.result (length_set_in n c.args.self.now.from.bits) c.requires.even c.is_beyond-beyond.ensures
           (sym (c.contains.ensures n c.requires.bound) ∙ c.if-contains.false) (is_open forced is) (option_map (λ (q : AttributeSet). set_in n q.bits) r)
-          (some_mapped n r ∙ sym c.is-some.ensures ∙ c.if-is-some.true) c.first-in-branch-without.ensures.found;
-      bound = c.first-in-branch-without.ensures.bound;
+          (some_mapped n r ∙ sym c.is_some.ensures ∙ c.if-is_some.true) c.first_in_branch-without.ensures.found;
+      bound = c.first_in_branch-without.ensures.bound;
     }
 
-pub first-in-branch-requires-2 : goal.first-in-branch-requires-2
-first-in-branch-requires-2 g t c κs within =
+pub first_in_branch-requires-2 : goal.first_in_branch-requires-2
+first_in_branch-requires-2 g t c κs within =
     let n : ℕ = c.args.self.now.n.value in
     let is : List Implication = implications_in n c.args.self.now.confirmed.now in
     let forced : Set → Set = g.F.Forces.forced c.args.self.now.forces.now n in
@@ -100,8 +100,8 @@ first-in-branch-requires-2 g t c κs within =
               omega arith,
               (
                 closed.closed.respected,
-                with_even n c.args.attribute (set_in n c.args.s.bits) (set_in n c.args.self.now.from.bits) c.args.past c.is-beyond-beyond.result
-                    (length_set_in n c.args.self.now.from.bits) c.requires.even c.is-beyond-beyond.ensures
+                with_even n c.args.attribute (set_in n c.args.s.bits) (set_in n c.args.self.now.from.bits) c.args.past c.is_beyond-beyond.result
+                    (length_set_in n c.args.self.now.from.bits) c.requires.even c.is_beyond-beyond.ensures
                     (sym (c.contains.ensures n c.requires.bound) ∙ c.if-contains.false) is forced (set_in n c.in-Some.with.bits) less closed.closed closed.agrees,
               ),
             ),
@@ -110,8 +110,8 @@ first-in-branch-requires-2 g t c κs within =
       ),
     )
 
-pub returns-in-default : goal.returns-in-default
-returns-in-default g t c =
+pub returns-in_default : goal.returns-in_default
+returns-in_default g t c =
     let n : ℕ = c.args.self.now.n.value in
     let i : ℕ = c.args.attribute in
     let s : Set = set_in n c.args.s.bits in
@@ -120,13 +120,13 @@ returns-in-default g t c =
     let forced : Set → Set = g.F.Forces.forced c.args.self.now.forces.now n in
     let wide : length from ≡ n = length_set_in n c.args.self.now.from.bits in
     let out : has s i ≡ false = sym (c.contains.ensures n c.requires.bound) ∙ c.if-contains.false in
-    let none : NoneWithout n i s from c.args.past c.is-beyond-beyond.result wide c.requires.even c.is-beyond-beyond.ensures out (is_open forced is) =
+    let none : NoneWithout n i s from c.args.past c.is_beyond-beyond.result wide c.requires.even c.is_beyond-beyond.ensures out (is_open forced is) =
     elim c.if-beyond.branch [
-      | then-beyond+else-is-some w ↦
-          without_none n i s from c.args.past c.is-beyond-beyond.result wide c.requires.even c.is-beyond-beyond.ensures out (is_open forced is)
-          (option_map (λ (q : AttributeSet). set_in n q.bits) w.first-in-branch-without.result)
-          (some_mapped n w.first-in-branch-without.result ∙ sym w.is-some.ensures ∙ w.if-is-some.false) w.first-in-branch-without.ensures.found
-      | else-beyond w ↦ without_before n i s from c.args.past c.is-beyond-beyond.result wide c.requires.even c.is-beyond-beyond.ensures out (is_open forced is) w.if-beyond.false
+      | then-beyond+else-is_some w ↦
+          without_none n i s from c.args.past c.is_beyond-beyond.result wide c.requires.even c.is_beyond-beyond.ensures out (is_open forced is)
+          (option_map (λ (q : AttributeSet). set_in n q.bits) w.first_in_branch-without.result)
+          (some_mapped n w.first_in_branch-without.result ∙ sym w.is_some.ensures ∙ w.if-is_some.false) w.first_in_branch-without.ensures.found
+      | else-beyond w ↦ without_before n i s from c.args.past c.is_beyond-beyond.result wide c.requires.even c.is_beyond-beyond.ensures out (is_open forced is) w.if-beyond.false
     ]
     in
     let less : i < length s = omega (arith, length_set_in n c.args.s.bits) in
@@ -136,8 +136,8 @@ returns-in-default g t c =
     in
     record {
       found =
-          with_none n i s from c.args.past c.is-beyond-beyond.result wide c.requires.even c.is-beyond-beyond.ensures out is forced (closure n is grown) less closed
-          (λ a. c.in-default.ensures.cases (closure n is grown) (record { closed = closed; agrees = a })) none;
+          with_none n i s from c.args.past c.is_beyond-beyond.result wide c.requires.even c.is_beyond-beyond.ensures out is forced (closure n is grown) less closed
+          (λ a. c.in_default.ensures.cases (closure n is grown) (record { closed = closed; agrees = a })) none;
       bound = tt;
     }
 
@@ -151,20 +151,20 @@ returns g t c =
     let forced : Set → Set = g.F.Forces.forced c.args.self.now.forces.now n in
     let wide : length from ≡ n = length_set_in n c.args.self.now.from.bits in
     let out : has s i ≡ false = sym (c.contains.ensures n c.requires.bound) ∙ c.if-contains.false in
-    let none : NoneWithout n i s from c.args.past c.is-beyond-beyond.result wide c.requires.even c.is-beyond-beyond.ensures out (is_open forced is) =
+    let none : NoneWithout n i s from c.args.past c.is_beyond-beyond.result wide c.requires.even c.is_beyond-beyond.ensures out (is_open forced is) =
     elim c.if-beyond.branch [
-      | then-beyond+else-is-some w ↦
-          without_none n i s from c.args.past c.is-beyond-beyond.result wide c.requires.even c.is-beyond-beyond.ensures out (is_open forced is)
-          (option_map (λ (q : AttributeSet). set_in n q.bits) w.first-in-branch-without.result)
-          (some_mapped n w.first-in-branch-without.result ∙ sym w.is-some.ensures ∙ w.if-is-some.false) w.first-in-branch-without.ensures.found
-      | else-beyond w ↦ without_before n i s from c.args.past c.is-beyond-beyond.result wide c.requires.even c.is-beyond-beyond.ensures out (is_open forced is) w.if-beyond.false
+      | then-beyond+else-is_some w ↦
+          without_none n i s from c.args.past c.is_beyond-beyond.result wide c.requires.even c.is_beyond-beyond.ensures out (is_open forced is)
+          (option_map (λ (q : AttributeSet). set_in n q.bits) w.first_in_branch-without.result)
+          (some_mapped n w.first_in_branch-without.result ∙ sym w.is_some.ensures ∙ w.if-is_some.false) w.first_in_branch-without.ensures.found
+      | else-beyond w ↦ without_before n i s from c.args.past c.is_beyond-beyond.result wide c.requires.even c.is_beyond-beyond.ensures out (is_open forced is) w.if-beyond.false
     ]
     in
     let less : i < length s = omega (arith, length_set_in n c.args.s.bits) in
     let closed = c.in-Some.ensures.cases in
     record {
       found =
-          with_found n i s from c.args.past c.is-beyond-beyond.result wide c.requires.even c.is-beyond-beyond.ensures out is forced (set_in n c.in-Some.with.bits) less closed.closed
-          closed.agrees none (option_map (λ (q : AttributeSet). set_in n q.bits) c.first-in-branch-2.result) c.first-in-branch-2.ensures.found;
-      bound = c.first-in-branch-2.ensures.bound;
+          with_found n i s from c.args.past c.is_beyond-beyond.result wide c.requires.even c.is_beyond-beyond.ensures out is forced (set_in n c.in-Some.with.bits) less closed.closed
+          closed.agrees none (option_map (λ (q : AttributeSet). set_in n q.bits) c.first_in_branch-2.result) c.first_in_branch-2.ensures.found;
+      bound = c.first_in_branch-2.ensures.bound;
     }

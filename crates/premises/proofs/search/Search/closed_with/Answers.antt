@@ -1,5 +1,5 @@
 use Rattle.std.proofs.Common.{◌≡◌, ℕ, ◌^◌, ◌<◌, ◌≤◌, true, List, set, sym, ap, ◌∙◌, subst, arith}
-use Rattle.std.proofs.lemmas.Bool.{both_ways}
+use Rattle.std.proofs.lemmas.Bool.{both_ways, eq-eqb, eqb-true}
 use Rattle.attributes.specs.Numbers.{set_in, number_of}
 use Rattle.attributes.specs.Sets.{Set}
 use Rattle.attributes.proofs.Numbers.{number_of_set_in}
@@ -8,12 +8,8 @@ use Rattle.implications.specs.Implications.{Closure}
 use Rattle.implications.specs.Values.{implications_in}
 use Rattle.implications.proofs.Respects.{one_closure}
 use Rattle.premises.specs.Branches.{Agree}
-use Rattle.premises.proofs.Branching.{same_agree, agree_same}
+use Rattle.premises.proofs.Branching.{same_agree, agree_same, same_number}
 use Rattle.premises.proofs.search.Search.closed_with.Goals as goal
-
--- numbers below 2 ^ i that stand for the same set are the same
-same_number : (i p q : ℕ) → p < 2 ^ i → q < 2 ^ i → set_in i p ≡ set_in i q → p ≡ q
-same_number i p q a b e = sym (number_of_set_in i p a) ∙ ap number_of e ∙ number_of_set_in i q b
 
 pub returns-then-eq : goal.returns-then-eq
 returns-then-eq g c =
@@ -23,7 +19,7 @@ returns-then-eq g c =
     let more : Set = set_in n c.close-with.result.bits in
     let added : set_in n c.with.result.bits ≡ set (set_in n c.args.s.bits) i true = c.with.ensures.value n (omega (arith, c.args.self.now.n.few)) in
     let same : set_in i c.args.s.bits ≡ set_in i c.close-with.result.bits =
-    sym c.below-2.ensures.value ∙ ap (set_in i) (sym (c.eq.ensures.0 c.if-eq.true)) ∙ c.below.ensures.value
+    sym c.below-2.ensures.value ∙ ap (set_in i) (sym (eqb-true c.below.result.bits c.below-2.result.bits (sym c.eq.ensures ∙ c.if-eq.true))) ∙ c.below.ensures.value
     in
     record {
       cases = record {
@@ -48,6 +44,6 @@ returns-else-eq g c =
           agree_same n i c.args.s.bits c.close-with.result.bits c.requires.there (subst (Agree i (set_in n c.args.s.bits)) is_more h.agrees)
           in
           both_ways c.eq.result c.if-eq.false
-          (c.eq.ensures.1 (same_number i c.below.result.bits c.below-2.result.bits c.below.ensures.bound c.below-2.ensures.bound (c.below.ensures.value ∙ sym same ∙ sym c.below-2.ensures.value)));
+          (c.eq.ensures ∙ eq-eqb c.below.result.bits c.below-2.result.bits (same_number i c.below.result.bits c.below-2.result.bits c.below.ensures.bound c.below-2.ensures.bound (c.below.ensures.value ∙ sym same ∙ sym c.below-2.ensures.value)));
       bound = tt;
     }
