@@ -10,7 +10,7 @@ returns c =
     let n : ℕ = c.args.n.value in
     let one : List Implication = implications_in n c.args.one.now in
     let other : List Implication = implications_in n c.args.other.now in
-    let told : Compared n one other c.told-by.result =
-    subst (Compared n one other) (sym c.told-by.ensures) (compared_by n one other c.first_difference.result c.first-difference-2.result c.first_difference.ensures c.first-difference-2.ensures)
+    let told : Compared n one other c.told_by.result =
+    subst (Compared n one other) (sym c.told_by.ensures) (compared_by n one other c.first_difference.result c.first_difference-2.result c.first_difference.ensures c.first_difference-2.ensures)
     in
-    record { told = told; same = compared_same n one other c.told-by.result told }
+    record { told = told; same = compared_same n one other c.told_by.result told }

@@ -45,36 +45,36 @@ implications-preserved c =
       below_more _ c.implications.place c.implications.invariant.1
           (subst (Follows n is) c.in-Some.ensures.value.1
           (reaching_follows n is i (set_in n c.loop-implication.reached.bits) c.loop-implication.invariant.2
-          (sym (c.is-subset-of.ensures n c.in-Some.ensures.bound.1) ∙ c.loop-implication-test.false))),
+          (sym (c.is_subset_of.ensures n c.in-Some.ensures.bound.1) ∙ c.loop-implication-test.false))),
     )
 
-pub returns-in-default-repair : goal.returns-in-default-repair
-returns-in-default-repair c =
+pub returns-in_default-repair : goal.returns-in_default-repair
+returns-in_default-repair c =
     let n : ℕ = c.args.n.value in
     let one : List ℕ = c.args.one.now in
     let is : List Implication = implications_in n c.args.other.now in
     let i : Implication = implication_at n c.in-Some.implication in
     let r : Set = set_in n c.loop-implication.reached.bits in
     let wide : length r ≡ n = length_set_in n c.loop-implication.reached.bits in
-    let lacks : subset i.conclusion r ≡ false = sym (c.is-subset-of.ensures n c.in-Some.ensures.bound.1) ∙ c.loop-implication-test.true in
+    let lacks : subset i.conclusion r ≡ false = sym (c.is_subset_of.ensures n c.in-Some.ensures.bound.1) ∙ c.loop-implication-test.true in
     record {
       difference =
           record {
             inside = omega (arith, c.in-Some.ensures.value.0, implications_length n one);
             there = c.in-Some.ensures.value.1;
             before = c.implications.invariant.1;
-            fails = reaching_fails n is i r c.loop-implication.invariant.2 wide c.in-default-repair.ensures.value lacks;
-            first = reaching_first n is i r c.loop-implication.invariant.2 wide c.in-default-repair.ensures.value lacks;
+            fails = reaching_fails n is i r c.loop-implication.invariant.2 wide c.in_default-repair.ensures.value lacks;
+            first = reaching_first n is i r c.loop-implication.invariant.2 wide c.in_default-repair.ensures.value lacks;
           };
       premise = c.in-Some.ensures.bound.0;
       conclusion = c.in-Some.ensures.bound.1;
       witness = c.loop-implication.invariant.1;
     }
 
-pub returns-in-default : goal.returns-in-default
-returns-in-default c =
+pub returns-in_default : goal.returns-in_default
+returns-in_default c =
     let n : ℕ = c.args.n.value in
     let one : List Implication = implications_in n c.args.one.now in
     let is : List Implication = implications_in n c.args.other.now in
     subst (λ (o : Option Difference). MatchOption o (AllByRecursion (Follows n is) one) (Differs n one is)) (sym c.implications.invariant.0)
-    (all_follow n one is c.implications.place (omega (arith, c.in-default.ensures.value, implications_length n c.args.one.now)) c.implications.invariant.1)
+    (all_follow n one is c.implications.place (omega (arith, c.in_default.ensures.value, implications_length n c.args.one.now)) c.implications.invariant.1)
