@@ -3,5 +3,5 @@ use Rattle.std.proofs.lemmas.List.{get_or_past}
 use Rattle.std.proofs.lemmas.Bool.{eqb-true}
 use Rattle.bases.proofs.row.first_of.Goals as goal
 
-pub returns-then-is-empty : goal.returns-then-is-empty
-returns-then-is-empty c = sym (get_or_past c.args.row.now 0 0 (omega (arith, eqb-true (length c.args.row.now) 0 (sym c.is-empty.ensures ∙ c.if-is-empty.true))))
+pub returns-then-is_empty : goal.returns-then-is_empty
+returns-then-is_empty c = sym (get_or_past c.args.row.now 0 0 (omega (arith, eqb-true (length c.args.row.now) 0 (sym c.is_empty.ensures ∙ c.if-is_empty.true))))

@@ -18,11 +18,11 @@ loop-asked-init g c =
     let before : List ℕ = c.args.part.now in
     (omega arith, subst (λ (m : ℕ). Kept n forced before before 0 m) (sym c.empty-from.ensures) (kept_none n forced before))
 
-pub slice-bounds-next-asked-end : goal.slice-bounds-next-asked-end
-slice-bounds-next-asked-end g c = room c.args.n.value c.loop-asked.count (length c.loop-asked.part) c.args.n.few c.loop-asked.invariant.0 (omega arith)
+pub slice_bounds-next_asked-end : goal.slice_bounds-next_asked-end
+slice_bounds-next_asked-end g c = room c.args.n.value c.loop-asked.count (length c.loop-asked.part) c.args.n.few c.loop-asked.invariant.0 (omega arith)
 
-pub slice-bounds-next-asked-end-in-loop-asked : goal.slice-bounds-next-asked-end-in-loop-asked
-slice-bounds-next-asked-end-in-loop-asked g c =
+pub slice_bounds-next_asked-end-in-loop-asked : goal.slice_bounds-next_asked-end-in-loop-asked
+slice_bounds-next_asked-end-in-loop-asked g c =
     sym (length-take-le (2 * c.loop-asked.count) c.loop-asked.part (room c.args.n.value c.loop-asked.count (length c.loop-asked.part) c.args.n.few c.loop-asked.invariant.0 (omega arith)))
 
 -- a measure that counts up to a bound falls
@@ -62,4 +62,4 @@ loop-asked-preserved g c =
 
 pub returns : goal.returns
 returns g c =
-    kept_end c.args.n.value (g.F.Forces.forced c.args.forces.now c.args.n.value) c.args.part.now c.loop-asked.part c.loop-asked.count c.loop-asked.from.bits c.loop-asked.invariant.1 c.in-default.ensures.value
+    kept_end c.args.n.value (g.F.Forces.forced c.args.forces.now c.args.n.value) c.args.part.now c.loop-asked.part c.loop-asked.count c.loop-asked.from.bits c.loop-asked.invariant.1 c.in_default.ensures.value

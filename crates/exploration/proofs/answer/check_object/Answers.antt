@@ -7,10 +7,10 @@ pub returns-in-Some : goal.returns-in-Some
 returns-in-Some c =
     let n : ℕ = c.args.n.value in
     object_refused n (implications_in n c.args.confirmed.now) c.args.asked c.args.object
-    (sym (c.is-respected-by.ensures n c.requires.premise c.requires.conclusion) ∙ c.if-is-respected-by.false) c.in-Some.place c.in-Some.ensures
+    (sym (c.is_respected_by.ensures n c.requires.premise c.requires.conclusion) ∙ c.if-is_respected_by.false) c.in-Some.place c.in-Some.ensures
 
 pub returns : goal.returns
 returns c =
     let n : ℕ = c.args.n.value in
     object_taken n (implications_in n c.args.confirmed.now) c.args.asked c.args.object
-    (sym (c.is-respected-by.ensures n c.requires.premise c.requires.conclusion) ∙ c.if-is-respected-by.false) c.in-default.ensures
+    (sym (c.is_respected_by.ensures n c.requires.premise c.requires.conclusion) ∙ c.if-is_respected_by.false) c.in_default.ensures

@@ -3,4 +3,4 @@ use Rattle.exploration.proofs.asking.ask_from.Goals as goal
 
 pub returns : goal.returns
 unfolding question_from
-returns c = record { value = c.first-asked-from.ensures.value; bound = c.first-asked-from.ensures.bound }
+returns c = record { value = c.first_asked_from.ensures.value; bound = c.first_asked_from.ensures.bound }

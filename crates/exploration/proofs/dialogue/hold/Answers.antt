@@ -5,12 +5,12 @@ use Rattle.exploration.proofs.dialogue.hold.Goals as goal
 
 pub loop-place-preserved : goal.loop-place-preserved
 loop-place-preserved c = (
-  subst (λ (ts : List Turn). Held c.args.known.now c.args.answers.now c.take-turn.new.known c.take-turn.result.0 ts (c.loop-place.place + 1)) (sym c.push-reserved.ensures.items)
+  subst (λ (ts : List Turn). Held c.args.known.now c.args.answers.now c.take_turn.new.known c.take_turn.result.0 ts (c.loop-place.place + 1)) (sym c.push_reserved.ensures.items)
       (held_more c.args.known.now c.args.answers.now c.loop-place.known c.loop-place.standing (vec_items c.loop-place.turns) c.loop-place.place (omega arith) c.loop-place.invariant.0
-      c.take-turn.new.known c.answer-at.result.now c.take-turn.result.0 c.take-turn.result.1 c.answer-at.ensures c.take-turn.ensures.after c.take-turn.ensures.stands
-      c.take-turn.ensures.asked c.take-turn.ensures.outcome),
-  omega (arith, c.push-reserved.ensures.len, c.loop-place.invariant.1),
-  c.push-reserved.ensures.capacity ∙ c.loop-place.invariant.2,
+      c.take_turn.new.known c.answer_at.result.now c.take_turn.result.0 c.take_turn.result.1 c.answer_at.ensures c.take_turn.ensures.after c.take_turn.ensures.stands
+      c.take_turn.ensures.asked c.take_turn.ensures.outcome),
+  omega (arith, c.push_reserved.ensures.len, c.loop-place.invariant.1),
+  c.push_reserved.ensures.capacity ∙ c.loop-place.invariant.2,
 )
 
 pub returns : goal.returns

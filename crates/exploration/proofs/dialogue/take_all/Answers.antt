@@ -5,6 +5,7 @@ use Rattle.exploration.proofs.dialogue.take_all.Goals as goal
 pub returns : goal.returns
 returns c =
     record {
-      held = c.take-in-turn.ensures;
-      promise = promise_kept c.args.n c.args.known.now c.args.answers.now (told c.take-in-turn.result) c.take-in-turn.new.known c.take-in-turn.ensures;
+      held = c.take_in_turn.ensures.held;
+      memory = c.take_in_turn.ensures.memory;
+      promise = promise_kept c.args.n c.args.known.now c.args.answers.now (told c.take_in_turn.result) c.take_in_turn.new.known c.take_in_turn.ensures.held;
     }

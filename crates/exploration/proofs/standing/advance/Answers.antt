@@ -18,12 +18,12 @@ use Rattle.exploration.proofs.standing.advance.Goals as goal
 pub apply-requires : goal.apply-requires
 apply-requires c = record { long = (counted c.args.known.now c.args.standing.counts c.requires.stands.counts).long; room = c.requires.room }
 
-pub implications-of-requires : goal.implications-of-requires
-implications-of-requires c =
+pub implications_of-requires : goal.implications_of-requires
+implications_of-requires c =
     ap checked_row c.apply.ensures ∙ (stepped c.args.known.now c.args.standing.counts c.args.step c.requires.stands.counts c.requires.room).counts_then ∙ ap Ok (sym c.raised-counts.ensures)
 
-pub examples-of-requires : goal.examples-of-requires
-examples-of-requires c =
+pub examples_of-requires : goal.examples_of-requires
+examples_of-requires c =
     ap checked_row c.apply.ensures ∙ (stepped c.args.known.now c.args.standing.counts c.args.step c.requires.stands.counts c.requires.room).counts_then ∙ ap Ok (sym c.raised-counts.ensures)
 
 pub returns : goal.returns
@@ -38,18 +38,18 @@ returns c =
     let width_then : attributes_in c.apply.new.known ≡ n₀ = ap attributes_in c.apply.ensures ∙ then.width in
     let known_then : known_in c.apply.new.known ≡ learnt = ap known_in c.apply.ensures ∙ then.known in
     let at : n ≡ attributes_in c.apply.new.known = width ∙ sym width_then in
-    let known : ◌≡◌ {A = Knowledge} (record { confirmed = implications_in n c.implications-of.result.now; examples = objects_in n c.examples-of.result.now }) learnt =
-    (λ j. record { confirmed = implications_in (at j) (c.implications-of.ensures j); examples = objects_in (at j) (c.examples-of.ensures j) }) ∙ known_then
+    let known : ◌≡◌ {A = Knowledge} (record { confirmed = implications_in n c.implications_of.result.now; examples = objects_in n c.examples_of.result.now }) learnt =
+    (λ j. record { confirmed = implications_in (at j) (c.implications_of.ensures j); examples = objects_in (at j) (c.examples_of.ensures j) }) ∙ known_then
     in
     let from : c.premise_of.result.bits ≡ (premise_of c.args.standing.asked).bits = ap (λ (s : AttributeSet). s.bits) c.premise_of.ensures in
-    let value : option_map (implication_at n₀) c.ask-from.result ≡ question_from n₀ learnt (set_in n₀ (premise_of c.args.standing.asked).bits) =
-    ap (λ (m : ℕ). option_map (implication_at m) c.ask-from.result) (sym width) ∙ c.ask-from.ensures.value ∙ (λ j. question_from (width j) (known j) (set_in (width j) (from j)))
+    let value : option_map (implication_at n₀) c.ask_from.result ≡ question_from n₀ learnt (set_in n₀ (premise_of c.args.standing.asked).bits) =
+    ap (λ (m : ℕ). option_map (implication_at m) c.ask_from.result) (sym width) ∙ c.ask_from.ensures.value ∙ (λ j. question_from (width j) (known j) (set_in (width j) (from j)))
     in
     record {
       after = c.apply.ensures;
       asked =
-          next_asked n₀ (known_in row) step c.args.standing.asked c.ask-from.result (objects_width n₀ (example_part row)) c.requires.stands.asked c.requires.some value
-          (subst (λ (m : ℕ). Bounded m c.ask-from.result) width c.ask-from.ensures.bound)
+          next_asked n₀ (known_in row) step c.args.standing.asked c.ask_from.result (objects_width n₀ (example_part row)) c.requires.stands.asked c.requires.some value
+          (subst (λ (m : ℕ). Bounded m c.ask_from.result) width c.ask_from.ensures.bound)
           ∙ (λ j. option_map pair_of (question (sym width_then j) (sym known_then j)));
-      bound = c.ask-from.ensures.bound;
+      bound = c.ask_from.ensures.bound;
     }

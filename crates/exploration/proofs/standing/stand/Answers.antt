@@ -14,15 +14,15 @@ returns c =
     let row : List ℕ = c.args.known.now in
     let n : ℕ = c.in-Ok-n.n.value in
     let width : n ≡ attributes_in row = c.in-Ok-n.ensures.0 in
-    let k : Knowledge = record { confirmed = implications_in n c.implications-of.result.now; examples = objects_in n c.examples-of.result.now } in
-    let asked : option_map (implication_at n) c.ask-from-asked.result ≡ question (attributes_in row) (known_in row) =
-    c.ask-from-asked.ensures.value ∙ ap (λ (m : ℕ). question_from n k (set_in n m)) c.empty.ensures ∙ from_start n k
-    ∙ (λ j. question (width j) (record { confirmed = implications_in (width j) (c.implications-of.ensures j); examples = objects_in (width j) (c.examples-of.ensures j) }))
+    let k : Knowledge = record { confirmed = implications_in n c.implications_of.result.now; examples = objects_in n c.examples_of.result.now } in
+    let asked : option_map (implication_at n) c.ask_from-asked.result ≡ question (attributes_in row) (known_in row) =
+    c.ask_from-asked.ensures.value ∙ ap (λ (m : ℕ). question_from n k (set_in n m)) c.empty.ensures ∙ from_start n k
+    ∙ (λ j. question (width j) (record { confirmed = implications_in (width j) (c.implications_of.ensures j); examples = objects_in (width j) (c.examples_of.ensures j) }))
     in
     record {
       width = width;
-      counts = sym c.check-row-counts.ensures ∙ c.in-Ok.is;
+      counts = sym c.check_row-counts.ensures ∙ c.in-Ok.is;
       clean = c.in-Ok-n.ensures.1;
-      asked = paired n c.ask-from-asked.result (question (attributes_in row) (known_in row)) asked c.ask-from-asked.ensures.bound;
-      bound = c.ask-from-asked.ensures.bound;
+      asked = paired n c.ask_from-asked.result (question (attributes_in row) (known_in row)) asked c.ask_from-asked.ensures.bound;
+      bound = c.ask_from-asked.ensures.bound;
     }
