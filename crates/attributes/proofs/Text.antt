@@ -5,7 +5,6 @@ use Rattle.std.proofs.lemmas.Bool.{eq-eqb, ne_eqb}
 use Rattle.std.proofs.Output.{has_written_append, has_written_of_eq}
 use Rattle.std.specs.Fmt.{IsPlainFormatter, HasWritten}
 use Rattle.std.specs.declared.fmt.Formatter.{Formatter}
-use Rattle.attributes.specs.Sets.{Set}
 use Rattle.attributes.specs.Numbers.{set_in, number_of}
 use Rattle.attributes.specs.Text.{listed, written}
 use Rattle.attributes.proofs.Numbers.{number_of_set_in}

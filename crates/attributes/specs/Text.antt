@@ -1,5 +1,5 @@
 -- The text of an attribute set: the numbers of its attributes with a space between, or a dash. Definitions only.
-use Rattle.std.specs.Prelude.{ℕ, zero, suc, Bool, true, false, cond, List, [], ◌∷◌, ◌++◌, codes, decimal, ◌==◌}
+use Rattle.std.specs.Prelude.{ℕ, suc, Bool, true, false, cond, List, [], ◌∷◌, ◌++◌, codes, decimal, ◌==◌}
 use Rattle.attributes.specs.Sets.{Set}
 use Rattle.attributes.specs.Numbers.{number_of}
 

@@ -1,6 +1,6 @@
 -- Contexts and lists as lent rows of numbers: how many attributes there are, the count of the rows, and then a number for each object, or
 -- two for each implication. Definitions only.
-use Rattle.std.specs.Prelude.{◌≡◌, ℕ, suc, ◌+◌, ◌*◌, ◌/◌, ◌^◌, min, cond, List, [], ◌∷◌, ◌++◌, length, take, drop, Some, None, Option, nat_lt, slice_index}
+use Rattle.std.specs.Prelude.{◌≡◌, ℕ, suc, ◌*◌, ◌/◌, ◌^◌, min, cond, List, [], ◌∷◌, ◌++◌, length, take, drop, Some, None, Option, nat_lt, slice_index}
 use Rattle.attributes.specs.Numbers.{number_of}
 use Rattle.contexts.specs.Contexts.{Context, Implication}
 use Rattle.contexts.specs.Values.{objects_in}

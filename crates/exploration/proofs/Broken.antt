@@ -1,5 +1,5 @@
 -- The first confirmed implication that an object breaks. Assumes nothing.
-use Rattle.std.proofs.Common.{◌≡◌, ℕ, zero, suc, Bool, true, false, cond, ◌&&◌, ◌⊎◌, List, [], ◌∷◌, is_ok, Some, None, Ok, Err, Option, Result, sym, refl, ap, ◌∙◌, inl, inr, arith}
+use Rattle.std.proofs.Common.{◌≡◌, ℕ, zero, suc, Bool, true, false, cond, ◌&&◌, ◌⊎◌, List, [], ◌∷◌, is_ok, Some, None, Ok, Err, Option, sym, refl, ap, ◌∙◌, inl, inr, arith}
 use Rattle.std.proofs.lemmas.Bool.{and_parts, true≢false}
 use Rattle.std.specs.Option.{option_map}
 use Rattle.attributes.specs.Numbers.{set_in}
@@ -11,7 +11,6 @@ use Rattle.contexts.specs.declared.implication.Implication.{Implication as Pair}
 use Rattle.implications.specs.Implications.{respects_all}
 use Rattle.implications.specs.Places.{FirstBroken}
 use Rattle.exploration.specs.Answers.{checked_object, first_broken, unless_broken}
-use Rattle.replies.specs.declared.reply.Refusal.{Refusal}
 use Rattle.replies.specs.declared.reply.Refusal.TheVariants.{BreaksConfirmed, NotACounterexample}
 
 first_broken_at : (s : Set) (is : List Implication) (k : ℕ) → FirstBroken is s k → first_broken s is ≡ Some k

@@ -4,13 +4,13 @@ use Rattle.std.proofs.lemmas.Bool.{ltb-false, lt-ltb}
 use Rattle.std.specs.List.{AllByRecursion}
 use Rattle.premises.proofs.First.{no_some}
 use Rattle.exploration.specs.Answers.{RoomFor, written, StepBounded}
-use Rattle.exploration.specs.Row.{attribute_fault, attributes_in, checked_row, example_part, first_from, implication_part, unknown_at, unknown_attribute}
+use Rattle.exploration.specs.Row.{attribute_fault, attributes_in, checked_row, example_part, first_from, implication_part, unknown_at}
 use Rattle.replies.specs.declared.turn.Step.{Step}
 use Rattle.replies.specs.declared.turn.Step.TheVariants.{Confirm, Name}
-use Rattle.replies.specs.declared.reply.Refusal.TheVariants.{TooManyAttributes, UnknownAttribute}
+use Rattle.replies.specs.declared.reply.Refusal.TheVariants.{TooManyAttributes}
 use Rattle.exploration.specs.declared.row.Counts.{Counts}
 use Rattle.exploration.proofs.Rows.{few_enough}
-use Rattle.exploration.proofs.Taken.{Stepped, stepped, implication_numbers, example_numbers}
+use Rattle.exploration.proofs.Taken.{stepped, implication_numbers, example_numbers}
 
 pub record Clean (row : List ℕ) : Type 0 where
   pub few : attributes_in row ≤ 12

@@ -1,8 +1,8 @@
 -- What a row's entries do with an answer is what the definition of the dialogue does, for every row. Assumes nothing.
-use Rattle.std.proofs.Common.{◌≡◌, ℕ, ◌^◌, ◌<◌, Bool, true, false, cond, not, ◌&&◌, eqb, ltb, ◌⊎◌, List, length, is_ok, Some, None, Ok, Err, Option, Result, sym, refl, ap, ◌∙◌, subst, inl, inr}
-use Rattle.std.proofs.lemmas.Bool.{and_cases, cases_Bool, cond-true, cond-false, eq-eqb, lt-ltb, not-false}
+use Rattle.std.proofs.Common.{◌≡◌, ℕ, Bool, true, false, not, ◌&&◌, ◌⊎◌, List, length, is_ok, Some, None, Ok, Err, Option, Result, sym, refl, ap, ◌∙◌, inl, inr}
+use Rattle.std.proofs.lemmas.Bool.{and_cases, cases_Bool, cond-true, cond-false, eq-eqb, not-false}
 use Rattle.std.specs.Option.{option_map}
-use Rattle.attributes.specs.Numbers.{set_in, number_of}
+use Rattle.attributes.specs.Numbers.{set_in}
 use Rattle.attributes.specs.Sets.{Set}
 use Rattle.attributes.specs.declared.set.AttributeSet.{AttributeSet}
 use Rattle.attributes.proofs.Numbers.{length_set_in, number_of_set_in}
@@ -12,7 +12,7 @@ use Rattle.contexts.proofs.Walks.{objects_width}
 use Rattle.implications.specs.Implications.{respects_all}
 use Rattle.premises.proofs.First.{no_some}
 use Rattle.exploration.specs.Answers.{checked_answer, checked_object, counts_in, judged, judged_given, judged_row, named_if_room, row_after}
-use Rattle.dialogues.specs.Dialogue.{Knowledge, Answer, object, question, taken, with_answer, after}
+use Rattle.dialogues.specs.Dialogue.{Knowledge, Answer, question, taken, with_answer, after}
 use Rattle.dialogues.specs.Promise.{Room}
 use Rattle.exploration.specs.Row.{attribute_fault, attributes_in, checked_row, example_part, fault_or, known_in, pair_of, row_fault}
 use Rattle.exploration.specs.Turns.{AnswersAsDefined, AsDefined, answer_of, code}
@@ -20,7 +20,6 @@ use Rattle.exploration.specs.declared.answer.Answer.{Answer as Given}
 use Rattle.exploration.specs.declared.answer.Answer.TheVariants.{Always, Object}
 use Rattle.replies.specs.declared.turn.Step.{Step}
 use Rattle.replies.specs.declared.reply.Refusal.{Refusal}
-use Rattle.replies.specs.declared.reply.Refusal.TheVariants.{UnknownAttributeNamed}
 use Rattle.exploration.specs.declared.row.Counts.{Counts}
 use Rattle.dialogues.proofs.Asked.{asks, asks_concluded}
 use Rattle.exploration.proofs.Broken.{object_not_taken}

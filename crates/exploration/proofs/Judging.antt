@@ -1,16 +1,15 @@
 -- A judgement from where an exploration stands is the judgement of the row. Assumes nothing.
-use Rattle.std.proofs.Common.{◌≡◌, ℕ, true, List, is_some, Ok, Err, Result, sym, refl, ap, ◌∙◌, subst}
+use Rattle.std.proofs.Common.{◌≡◌, ℕ, true, List, is_some, Ok, Err, Result, sym, ap, ◌∙◌, subst}
 use Rattle.implications.specs.Values.{implications_in}
 use Rattle.exploration.specs.Answers.{RoomFor, checked_answer, counts_in, judged_given, raised, judged_row, reply_after, row_after, unless_fault, written, StepBounded}
-use Rattle.exploration.specs.Row.{Bounded, asked_in, attribute_fault, attributes_in, checked_row, fault_or, implication_part, known_in, reply_with, row_fault}
+use Rattle.exploration.specs.Row.{Bounded, asked_in, attribute_fault, attributes_in, checked_row, fault_or, implication_part, known_in, reply_with}
 use Rattle.exploration.specs.Standings.{Stands}
 use Rattle.replies.specs.declared.turn.Step.{Step}
 use Rattle.replies.specs.declared.reply.Refusal.{Refusal}
-use Rattle.replies.specs.declared.reply.Reply.{Reply}
 use Rattle.replies.specs.declared.reply.Reply.TheVariants.{Refused}
 use Rattle.exploration.specs.declared.row.Counts.{Counts}
 use Rattle.exploration.specs.declared.standing.Standing.{Standing}
-use Rattle.exploration.proofs.Judged.{Taken, judged_taken}
+use Rattle.exploration.proofs.Judged.{judged_taken}
 use Rattle.exploration.proofs.Clean.{clean_step}
 use Rattle.exploration.proofs.Taken.{counts_are, stepped}
 

@@ -1,11 +1,11 @@
 -- A row that was opened passes its checks and knows nothing. Assumes nothing.
-use Rattle.std.proofs.Common.{◌≡◌, ℕ, ◌*◌, ◌^◌, ◌<◌, ◌≤◌, Bool, true, false, cond, ltb, ◌≢◌, List, [], length, get_or, take, drop, set, Some, None, Ok, Err, Result, sym, refl, ap, ◌∙◌, subst, arith}
+use Rattle.std.proofs.Common.{◌≡◌, ℕ, ◌*◌, ◌^◌, ◌≤◌, Bool, true, false, cond, ltb, ◌≢◌, List, [], length, get_or, take, drop, set, None, Ok, Err, Result, sym, refl, ap, ◌∙◌, subst, arith}
 use Rattle.std.proofs.lemmas.List.{length-set, get_or-set_same, get_or-set_other}
 use Rattle.std.proofs.lemmas.Bool.{ltb-false, le-ltb}
 use Rattle.contexts.specs.Values.{objects_in}
 use Rattle.implications.specs.Values.{implications_in}
 use Rattle.exploration.specs.Answers.{counts_in}
-use Rattle.dialogues.specs.Dialogue.{Knowledge, nothing_known}
+use Rattle.dialogues.specs.Dialogue.{nothing_known}
 use Rattle.exploration.specs.Row.{attribute_fault, attributes_in, checked_row, example_part, fault_or, first_from, implication_part, known_in, opened, opening, row_fault}
 use Rattle.replies.specs.declared.reply.Refusal.{Refusal}
 use Rattle.replies.specs.declared.reply.Refusal.TheVariants.{RowTooShort, TooManyAttributes}

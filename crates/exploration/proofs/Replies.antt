@@ -1,5 +1,5 @@
 -- Questions as the code has them, and as replies. Assumes nothing.
-use Rattle.std.proofs.Common.{◌≡◌, ℕ, List, Some, None, Ok, Option, Result, sym, refl, ap, ◌∙◌}
+use Rattle.std.proofs.Common.{◌≡◌, ℕ, List, Some, None, Ok, Option, sym, ap, ◌∙◌}
 use Rattle.std.specs.Option.{option_map}
 use Rattle.attributes.specs.Numbers.{set_in}
 use Rattle.attributes.proofs.Numbers.{number_of_set_in}
@@ -8,9 +8,8 @@ use Rattle.contexts.specs.Values.{implication_at}
 use Rattle.contexts.specs.declared.implication.Implication.{Implication as Pair}
 use Rattle.premises.proofs.From.{from_empty}
 use Rattle.dialogues.specs.Dialogue.{Knowledge, about, question, question_from}
-use Rattle.exploration.specs.Row.{Bounded, attributes_in, attribute_fault, asked_in, asked_of, checked_row, fault_or, pair_of, reply_unless, reply_with}
+use Rattle.exploration.specs.Row.{Bounded, attribute_fault, asked_in, asked_of, checked_row, fault_or, pair_of, reply_unless, reply_with}
 use Rattle.exploration.specs.declared.row.Counts.{Counts}
-use Rattle.replies.specs.declared.reply.Refusal.{Refusal}
 
 -- a question of the code is the question that it stands for
 pub paired : (n : ℕ) (asked : Option Pair) (q : Option Implication) → option_map (implication_at n) asked ≡ q → Bounded n asked → asked ≡ option_map pair_of q

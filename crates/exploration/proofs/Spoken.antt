@@ -1,7 +1,7 @@
 -- Truthful answers, as numbers to a row: none is refused, and the row knows what was said. Assumes nothing.
-use Rattle.std.proofs.Common.{◌≡◌, ℕ, ◌*◌, ◌/◌, ◌^◌, ◌<◌, ◌≤◌, Bool, true, false, cond, not, ◌&&◌, eqb, ltb, List, [], ◌∷◌, ◌++◌, length, get_or, drop, is_ok, Some, None, Ok, Err, Option, Result, sym, refl, ap, ◌∙◌, subst, arith}
+use Rattle.std.proofs.Common.{◌≡◌, ℕ, ◌*◌, ◌^◌, ◌<◌, ◌≤◌, Bool, true, false, cond, not, ◌&&◌, eqb, List, [], ◌∷◌, ◌++◌, length, get_or, drop, is_ok, Some, None, Ok, Err, Option, Result, sym, refl, ap, ◌∙◌, subst, arith}
 use Rattle.std.proofs.lemmas.List.{length-take-le, length-drop, length-map}
-use Rattle.std.proofs.lemmas.Bool.{and_parts, eqb-true, lt-ltb, not-true, true≢false}
+use Rattle.std.proofs.lemmas.Bool.{and_parts, eqb-true, lt-ltb, not-true}
 use Rattle.std.specs.Option.{option_map}
 use Rattle.std.specs.List.{AllByRecursion}
 use Rattle.attributes.specs.Numbers.{set_in, number_of}
@@ -9,23 +9,20 @@ use Rattle.attributes.specs.Sets.{Set}
 use Rattle.attributes.specs.declared.set.AttributeSet.{AttributeSet}
 use Rattle.attributes.proofs.Numbers.{number_of_below, set_in_number_of}
 use Rattle.contexts.specs.Contexts.{Context, OfWidth, Implication, respects}
-use Rattle.contexts.specs.Values.{implication_at, objects_in}
-use Rattle.contexts.specs.declared.implication.Implication.{Implication as Pair}
+use Rattle.contexts.specs.Values.{implication_at}
 use Rattle.implications.specs.Implications.{respects_all}
-use Rattle.implications.specs.Values.{implications_in}
 use Rattle.implications.proofs.Repairs.{implications_length}
-use Rattle.exploration.specs.Answers.{RoomFor, checked_answer, checked_object, counts_in, judged, judged_given, judged_row, named_if_room, row_after, unless_fault, written, StepBounded}
+use Rattle.exploration.specs.Answers.{RoomFor, checked_answer, counts_in, judged, judged_given, judged_row, named_if_room, row_after, unless_fault, written, StepBounded}
 use Rattle.dialogues.specs.Dialogue.{Knowledge, Answer, always, object, question, taken, with_answer, after, after_all, TrueAnswer, Truthful, nothing_known}
-use Rattle.dialogues.specs.Promise.{Room, Honest, learnt, Explored}
-use Rattle.exploration.specs.Row.{attribute_fault, attributes_in, asked_in, checked_row, example_part, fault_or, implication_part, known_in, opened, opening, pair_of, row_fault}
-use Rattle.exploration.specs.Turns.{DialogueHeld, Kept, PromiseKept, Told, answers_in, code, encoded, row_after_all, turns_of}
+use Rattle.dialogues.specs.Promise.{Room, learnt, Explored}
+use Rattle.exploration.specs.Row.{attribute_fault, attributes_in, asked_in, checked_row, example_part, fault_or, implication_part, known_in, opened, pair_of}
+use Rattle.exploration.specs.Turns.{DialogueHeld, PromiseKept, Told, answers_in, code, encoded, row_after_all, turns_of}
 use Rattle.exploration.specs.declared.answer.Answer.{Answer as Given}
 use Rattle.exploration.specs.declared.answer.Answer.TheVariants.{Always, Object}
 use Rattle.replies.specs.declared.turn.Step.{Step}
 use Rattle.replies.specs.declared.turn.Step.TheVariants.{Confirm, Name}
 use Rattle.exploration.specs.declared.dialogue.NotHeld.{NotHeld}
 use Rattle.replies.specs.declared.turn.Turn.{Turn}
-use Rattle.replies.specs.declared.reply.Refusal.{Refusal}
 use Rattle.replies.specs.declared.reply.Refusal.TheVariants.{NoRoomForExample, NoRoomForImplication, UnknownAttributeNamed}
 use Rattle.exploration.specs.declared.row.Counts.{Counts}
 use Rattle.dialogues.proofs.Asked.{asks, asks_concluded}

@@ -1,13 +1,10 @@
 -- What a row knows after an answer was written to it. Assumes nothing.
-use Rattle.std.proofs.Common.{◌≡◌, ℕ, zero, suc, ◌+◌, ◌*◌, ◌/◌, ◌%◌, ◌<◌, ◌≤◌, Bool, true, false, cond, ◌≢◌, List, [], ◌∷◌, ◌++◌, length, get_or, take, drop, set, Ok, Err, Result, sym, refl, ap, ◌∙◌, subst, append_assoc, append-nil, add-one, arith}
+use Rattle.std.proofs.Common.{◌≡◌, ℕ, ◌+◌, ◌*◌, ◌%◌, ◌<◌, ◌≤◌, cond, ◌≢◌, List, [], ◌∷◌, ◌++◌, length, get_or, take, drop, set, Ok, Err, sym, refl, ap, ◌∙◌, subst, append_assoc, append-nil, arith}
 use Rattle.std.proofs.lemmas.List.{length-set, length-drop, get_or-set_same, get_or-set_other, drop-set-lt, drop-set-add, take-set-le, take_more_set, map_push, length-take-le}
 use Rattle.std.proofs.lemmas.Bool.{le-ltb}
 use Rattle.attributes.specs.Numbers.{set_in}
-use Rattle.attributes.specs.Sets.{Set}
-use Rattle.attributes.specs.declared.set.AttributeSet.{AttributeSet}
 use Rattle.contexts.specs.Contexts.{Context, Implication}
 use Rattle.contexts.specs.Values.{implication_at, objects_in}
-use Rattle.contexts.specs.declared.implication.Implication.{Implication as Pair}
 use Rattle.implications.specs.Values.{implications_in}
 use Rattle.exploration.specs.Answers.{RoomFor, counts_in, raised, written}
 use Rattle.dialogues.specs.Dialogue.{Knowledge}
@@ -15,7 +12,6 @@ use Rattle.exploration.specs.Row.{attributes_in, checked_row, example_part, impl
 use Rattle.replies.specs.declared.turn.Step.{Step}
 use Rattle.replies.specs.declared.turn.Step.TheVariants.{Confirm, Name}
 use Rattle.exploration.specs.declared.row.Counts.{Counts}
-use Rattle.replies.specs.declared.reply.Refusal.{Refusal}
 use Rattle.replies.specs.declared.reply.Refusal.TheVariants.{RowTooShort, TooManyImplications, TooManyExamples}
 use Rattle.exploration.proofs.Rows.{counted}
 

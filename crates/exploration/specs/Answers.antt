@@ -1,5 +1,5 @@
 -- Answers as numbers, and what an answer does to a lent row. Definitions only.
-use Rattle.std.specs.Prelude.{ℕ, suc, ◌+◌, ◌*◌, ◌^◌, ◌<◌, cond, List, [], ◌∷◌, length, set, Some, None, Ok, Err, Option, Result, ◌==◌, nat_lt, slice_index, slice_set}
+use Rattle.std.specs.Prelude.{ℕ, suc, ◌+◌, ◌*◌, ◌^◌, ◌<◌, cond, List, [], ◌∷◌, length, Some, None, Ok, Err, Option, Result, ◌==◌, nat_lt, slice_index, slice_set}
 use Rattle.std.specs.Option.{option_map}
 use Rattle.attributes.specs.Numbers.{set_in}
 use Rattle.attributes.specs.Sets.{Set}

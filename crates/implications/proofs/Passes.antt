@@ -1,17 +1,15 @@
 -- A pass over a list of implications. Assumes nothing.
-use Rattle.std.proofs.Common.{◌≡◌, ℕ, zero, suc, ◌+◌, ◌*◌, ◌/◌, ◌<◌, ◌≤◌, Bool, true, false, ◌⊎◌, List, [], ◌∷◌, length, get_or, sym, refl, ap, ◌∙◌, inl, inr, arith, below_more}
+use Rattle.std.proofs.Common.{◌≡◌, ℕ, ◌+◌, ◌<◌, ◌≤◌, true, false, List, length, get_or, arith, below_more}
 use Rattle.std.proofs.ByRecursion.{has_get_or}
 use Rattle.std.proofs.lemmas.Bool.{both_ways}
 use Rattle.std.specs.List.{ContainsAt}
-use Rattle.attributes.specs.Numbers.{set_in}
 use Rattle.attributes.specs.Sets.{Set, subset, join}
 use Rattle.attributes.proofs.Sets.{subset_refl, subset_trans, join_left, join_right, join_least}
-use Rattle.contexts.specs.Contexts.{Implication, respects}
-use Rattle.contexts.proofs.Holding.{respects_apply, respects_from}
-use Rattle.implications.specs.Implications.{respects_all, Closure}
+use Rattle.contexts.specs.Contexts.{Implication}
+use Rattle.contexts.proofs.Holding.{respects_apply}
+use Rattle.implications.specs.Implications.{respects_all}
 use Rattle.implications.specs.Places.{no_implication, Passed}
-use Rattle.implications.specs.Values.{implications_in}
-use Rattle.implications.proofs.Respects.{respects_has, has_respects}
+use Rattle.implications.proofs.Respects.{respects_has}
 
 -- a pass over the first k implications made g of s
 pub record Passing (n : ℕ) (is : List Implication) (s g : Set) (k : ℕ) : Type 0 where

@@ -1,5 +1,5 @@
 -- How the search for the first open set branches at an attribute. Assumes nothing.
-use Rattle.std.proofs.Common.{◌≡◌, ℕ, zero, suc, ◌+◌, ◌^◌, ◌<◌, ◌≤◌, Bool, true, false, not, ◌||◌, ◌⊎◌, List, [], ◌∷◌, length, set, is_some, Some, None, Option, sym, refl, ap, ◌∙◌, inl, inr, arith, below_more}
+use Rattle.std.proofs.Common.{◌≡◌, ℕ, zero, suc, ◌+◌, ◌^◌, ◌<◌, ◌≤◌, Bool, true, false, not, ◌||◌, List, [], ◌∷◌, length, set, is_some, Some, None, Option, sym, refl, ap, ◌∙◌, inl, inr, arith, below_more}
 use Rattle.std.proofs.lemmas.List.{ext_get_or, get_or-set_same, get_or-set_other, set_past}
 use Rattle.std.proofs.lemmas.Bool.{both_ways, cases_Bool, cases_eq, cases_lt}
 use Rattle.attributes.specs.Lectic.{precedes}
@@ -9,7 +9,7 @@ use Rattle.attributes.proofs.Lectic.{order_laws}
 use Rattle.attributes.proofs.Numbers.{has_narrow, length_set_in, number_of_set_in}
 use Rattle.attributes.proofs.Sets.{subset_has, has_subset, subset_refl, subset_trans}
 use Rattle.contexts.specs.Contexts.{Implication}
-use Rattle.implications.specs.Implications.{respects_all, Closure}
+use Rattle.implications.specs.Implications.{Closure}
 use Rattle.premises.specs.Branches.{Agree, InBranch, FirstInBranch, FoundInBranch}
 use Rattle.premises.specs.Open.{is_open}
 use Rattle.premises.proofs.Open.{open_parts}

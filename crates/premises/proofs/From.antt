@@ -1,19 +1,18 @@
 -- The first open set from a given one on, and from the start. Assumes nothing.
-use Rattle.std.proofs.Common.{◌≡◌, ℕ, zero, suc, Bool, true, false, not, ◌&&◌, ◌⊎◌, List, [], ◌∷◌, ◌++◌, length, Some, None, Option, sym, refl, ap, ◌∙◌, inl, inr, arith, pow_pos}
+use Rattle.std.proofs.Common.{◌≡◌, ℕ, zero, suc, Bool, true, false, not, ◌&&◌, List, [], ◌∷◌, ◌++◌, length, Some, None, Option, sym, refl, ap, ◌∙◌, inl, inr, arith, pow_pos}
 use mathlib.Core.Path.{fun_ext}
 use Rattle.std.proofs.ByRecursion.{has_append_left}
-use Rattle.std.proofs.lemmas.Bool.{both_ways, cases_Bool, and_parts, and_from, and_right, not-true, not_from_false}
+use Rattle.std.proofs.lemmas.Bool.{both_ways, cases_Bool, and_parts, and_from, not-true, not_from_false}
 use Rattle.std.specs.List.{ContainsAt}
 use Rattle.attributes.specs.Lectic.{precedes, sets}
 use Rattle.attributes.specs.Numbers.{set_in}
 use Rattle.attributes.specs.Sets.{Set, subset, has}
-use Rattle.attributes.proofs.Lectic.{order_laws}
 use Rattle.attributes.proofs.Numbers.{has_past}
 use Rattle.attributes.proofs.Sets.{has_subset}
-use Rattle.contexts.specs.Contexts.{Context, OfWidth, Implication, common}
+use Rattle.contexts.specs.Contexts.{Implication, common}
 use Rattle.contexts.proofs.CommonAttributes.{common_fewer}
 use Rattle.implications.specs.Implications.{Closure}
-use Rattle.premises.specs.Branches.{InBranch, FirstInBranch, FoundInBranch}
+use Rattle.premises.specs.Branches.{InBranch, FoundInBranch}
 use Rattle.premises.specs.Laws.{IsFirst, OpennessMonotone, SearchMayBegin}
 use Rattle.premises.specs.Open.{is_open, first, first_open, first_open_from}
 use Rattle.premises.proofs.First.{first_laws}

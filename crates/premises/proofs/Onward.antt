@@ -1,23 +1,19 @@
 -- How far the search through the sets that respect a list has come. Assumes nothing.
-use Rattle.std.proofs.Common.{◌≡◌, ℕ, zero, suc, ◌+◌, ◌^◌, ◌<◌, Bool, true, false, not, ◌&&◌, ◌⊎◌, List, [], ◌∷◌, ◌++◌, length, IfSome, Some, None, Option, sym, refl, ap, ◌∙◌, inl, inr, pow-suc, arith}
-use mathlib.Core.Path.{fun_ext}
-use Rattle.std.proofs.ByRecursion.{has_append_left}
-use Rattle.std.proofs.lemmas.Bool.{both_ways, true≢false, cases_Bool, and_parts, and_from, not-true, not_from_false}
-use Rattle.std.specs.List.{ContainsAt}
+use Rattle.std.proofs.Common.{◌≡◌, ℕ, suc, ◌+◌, ◌^◌, ◌<◌, Bool, true, false, not, ◌&&◌, List, [], ◌∷◌, length, IfSome, Some, None, Option, sym, ap, ◌∙◌, inl, inr, pow-suc, arith}
+use Rattle.std.proofs.lemmas.Bool.{both_ways, true≢false, cases_Bool, and_parts, and_from, not_from_false}
 use Rattle.std.specs.Option.{option_map}
-use Rattle.attributes.specs.Lectic.{precedes, sets}
+use Rattle.attributes.specs.Lectic.{precedes}
 use Rattle.attributes.specs.Numbers.{set_in}
 use Rattle.attributes.specs.Sets.{Set, subset}
 use Rattle.attributes.specs.declared.set.AttributeSet.{AttributeSet}
 use Rattle.attributes.proofs.Lectic.{order_laws}
-use Rattle.contexts.specs.Contexts.{Context, OfWidth, Implication, common}
-use Rattle.contexts.proofs.CommonAttributes.{common_fewer}
+use Rattle.contexts.specs.Contexts.{Implication}
 use Rattle.implications.specs.Implications.{respects_all}
 use Rattle.premises.specs.Respecting.{next_respecting}
 use Rattle.premises.specs.Laws.{IsFirst}
 use Rattle.premises.specs.Open.{is_open, first_open_from}
 use Rattle.premises.proofs.First.{first_laws}
-use Rattle.premises.proofs.Open.{open_from, shut_from, stays_shut}
+use Rattle.premises.proofs.Open.{open_from, shut_from}
 
 -- how many sets of the same attributes come after a set
 later : Set → ℕ

@@ -1,12 +1,12 @@
 -- How the next set that respects a list is sought: attribute by attribute, in branches. Assumes nothing.
-use Rattle.std.proofs.Common.{◌≡◌, ℕ, zero, suc, ◌-◌, ◌^◌, ◌<◌, ◌≤◌, Bool, true, false, ◌&&◌, ◌⊎◌, List, [], ◌∷◌, length, set, Some, None, sym, refl, ap, ◌∙◌, inl, inr, lt_of_lt_of_le, arith, pow_mono}
-use Rattle.std.proofs.lemmas.List.{ext_get_or, get_or-set_same, get_or-set_other}
+use Rattle.std.proofs.Common.{◌≡◌, ℕ, zero, suc, ◌^◌, ◌<◌, ◌≤◌, Bool, true, false, ◌&&◌, List, [], ◌∷◌, length, set, Some, None, sym, refl, ap, ◌∙◌, inl, inr, lt_of_lt_of_le, arith, pow_mono}
+use Rattle.std.proofs.lemmas.List.{get_or-set_same, get_or-set_other}
 use Rattle.std.proofs.lemmas.Bool.{both_ways, true≢false, cases_Bool, cases_eq, cases_lt, and_parts, and_from}
 use Rattle.attributes.specs.Lectic.{precedes}
 use Rattle.attributes.specs.Numbers.{set_in}
 use Rattle.attributes.specs.Sets.{Set, subset, has}
 use Rattle.attributes.proofs.Lectic.{order_laws, subset_first}
-use Rattle.attributes.proofs.Numbers.{has_narrow, has_past, length_set_in}
+use Rattle.attributes.proofs.Numbers.{has_past, length_set_in}
 use Rattle.attributes.proofs.Sets.{subset_has, has_subset}
 use Rattle.contexts.specs.Contexts.{Implication}
 use Rattle.implications.specs.Implications.{respects_all}

@@ -1,5 +1,5 @@
 -- The sets that respect a list, in lectic order, and the branches in which the next one is sought. Definitions only.
-use Rattle.std.specs.Prelude.{◌≡◌, ℕ, ◌<◌, true, ◌&&◌, List, length, Option}
+use Rattle.std.specs.Prelude.{◌≡◌, ℕ, true, ◌&&◌, List, length, Option}
 use Rattle.attributes.specs.Lectic.{precedes, sets}
 use Rattle.attributes.specs.Sets.{Set, subset, has}
 use Rattle.contexts.specs.Contexts.{Implication}

@@ -1,6 +1,5 @@
-use Rattle.std.proofs.Common.{◌≡◌, ℕ, false, List, length, Option, sym, ap, ◌∙◌, subst, arith, below_more, MatchOption}
+use Rattle.std.proofs.Common.{◌≡◌, ℕ, false, List, length, Option, sym, ◌∙◌, subst, arith, below_more, MatchOption}
 use Rattle.std.specs.List.{AllByRecursion}
-use Rattle.std.proofs.lemmas.Bool.{both_ways}
 use Rattle.attributes.specs.Numbers.{set_in}
 use Rattle.attributes.specs.Sets.{Set, subset}
 use Rattle.attributes.proofs.Numbers.{length_set_in}

@@ -1,6 +1,6 @@
 use Rattle.std.proofs.Common.{rules, ℕ, ◌<◌}
 use Rattle.attributes.specs.Numbers.{set_in}
-use Rattle.attributes.specs.Sets.{Set, missing}
+use Rattle.attributes.specs.Sets.{missing}
 use Rattle.attributes.proofs.Numbers.{length_set_in}
 use Rattle.implications.specs.Values.{implications_in}
 use Rattle.implications.proofs.Repairs.{respecting_closure, repaired_less, repaired_closure}

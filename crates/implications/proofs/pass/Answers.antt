@@ -1,12 +1,12 @@
-use Rattle.std.proofs.Common.{◌≡◌, ℕ, ◌<◌, List, length, sym, ◌∙◌, subst, arith}
+use Rattle.std.proofs.Common.{ℕ, ◌<◌, List, length, sym, ◌∙◌, subst, arith}
 use Rattle.attributes.specs.Numbers.{set_in}
-use Rattle.attributes.specs.Sets.{Set, join}
+use Rattle.attributes.specs.Sets.{Set}
 use Rattle.attributes.proofs.Numbers.{length_set_in}
 use Rattle.contexts.specs.Contexts.{Implication}
 use Rattle.contexts.specs.Values.{implication_at}
 use Rattle.implications.specs.Places.{Passed}
 use Rattle.implications.specs.Values.{implications_in}
-use Rattle.implications.proofs.Passes.{Passing, passing_none, passing_taken, passing_passed, passing_all}
+use Rattle.implications.proofs.Passes.{passing_none, passing_taken, passing_passed, passing_all}
 use Rattle.implications.proofs.Repairs.{implications_length}
 use Rattle.implications.proofs.pass.Goals as goal
 use Rattle.implications.proofs.pass.Goals.{then-is_subset_of, else-is_subset_of}

@@ -1,4 +1,4 @@
-use Rattle.std.proofs.Common.{◌≡◌, ℕ, ◌<◌, List, codes, decimal, sym, refl, ap, ◌∙◌, arith}
+use Rattle.std.proofs.Common.{decimal, sym, ap}
 use Rattle.std.specs.Fmt.{digits}
 use Rattle.attributes.proofs.set.digits.Goals as goal
 

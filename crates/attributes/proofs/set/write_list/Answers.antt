@@ -1,5 +1,5 @@
 use Rattle.std.proofs.Common.{refl, arith}
-use Rattle.attributes.proofs.Text.{SoFar, so_far_in, so_far_out, so_far_all}
+use Rattle.attributes.proofs.Text.{so_far_in, so_far_out, so_far_all}
 use Rattle.attributes.proofs.set.write_list.Goals as goal
 use Rattle.attributes.proofs.set.write_list.Goals.{then-rest-eq1+in_ok-write_next, else-rest-eq1}
 

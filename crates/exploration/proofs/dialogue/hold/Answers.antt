@@ -1,4 +1,4 @@
-use Rattle.std.proofs.Common.{◌+◌, List, [], ◌∷◌, ◌++◌, vec_items, sym, ◌∙◌, subst, arith}
+use Rattle.std.proofs.Common.{◌+◌, List, vec_items, sym, ◌∙◌, subst, arith}
 use Rattle.replies.specs.declared.turn.Turn.{Turn}
 use Rattle.exploration.proofs.Along.{Held, held_more, held_rows, held_turns}
 use Rattle.exploration.proofs.dialogue.hold.Goals as goal

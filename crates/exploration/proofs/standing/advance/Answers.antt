@@ -2,7 +2,6 @@ use Rattle.std.proofs.Common.{◌≡◌, ℕ, List, Ok, sym, ap, ◌∙◌, subs
 use Rattle.std.specs.Option.{option_map}
 use Rattle.attributes.specs.Numbers.{set_in}
 use Rattle.attributes.specs.declared.set.AttributeSet.{AttributeSet}
-use Rattle.contexts.specs.Contexts.{Implication}
 use Rattle.contexts.specs.Values.{implication_at, objects_in}
 use Rattle.contexts.proofs.Walks.{objects_width}
 use Rattle.implications.specs.Values.{implications_in}

@@ -1,7 +1,6 @@
 use Rattle.std.proofs.Common.{◌≡◌, ℕ, List, sym, ap, ◌∙◌}
 use Rattle.std.specs.Option.{option_map}
 use Rattle.attributes.specs.Numbers.{set_in}
-use Rattle.contexts.specs.Contexts.{Implication}
 use Rattle.contexts.specs.Values.{implication_at, objects_in}
 use Rattle.implications.specs.Values.{implications_in}
 use Rattle.dialogues.specs.Dialogue.{Knowledge, question, question_from}

@@ -1,7 +1,6 @@
-use Rattle.std.proofs.Common.{◌≡◌, ℕ, ◌+◌, ◌*◌, ◌<◌, List, set, sym, ap, ◌∙◌, subst, arith}
+use Rattle.std.proofs.Common.{ℕ, ◌+◌, ◌*◌, ◌<◌, List, set, sym, ap, ◌∙◌, subst, arith}
 use borrow.Rule.Slice.PartMut.{put_mid}
 use Rattle.exploration.specs.Answers.{RoomFor, written}
-use Rattle.replies.specs.declared.turn.Step.{Step}
 use Rattle.exploration.proofs.Written.{put_two}
 use Rattle.exploration.proofs.writing.apply.Goals as goal
 

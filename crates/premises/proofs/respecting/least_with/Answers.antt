@@ -1,8 +1,8 @@
-use Rattle.std.proofs.Common.{◌==◌, ◌≡◌, ℕ, ◌^◌, ◌<◌, Bool, true, false, not, List, sym, refl, ap, ◌∙◌, lt_of_lt_of_le, arith, pow_mono}
+use Rattle.std.proofs.Common.{◌==◌, ◌≡◌, ℕ, sym, ap, ◌∙◌, lt_of_lt_of_le, arith, pow_mono}
 use Rattle.std.proofs.lemmas.Bool.{both_ways, not-true, not-false, eq-eqb, eqb-true}
-use Rattle.attributes.specs.Numbers.{set_in, number_of}
+use Rattle.attributes.specs.Numbers.{set_in}
 use Rattle.attributes.specs.Sets.{Set}
-use Rattle.attributes.proofs.Numbers.{length_set_in, number_of_set_in}
+use Rattle.attributes.proofs.Numbers.{length_set_in}
 use Rattle.implications.proofs.Repairs.{repaired_less}
 use Rattle.premises.proofs.Branching.{same_agree, agree_same, same_number}
 use Rattle.premises.proofs.Stepping.{growing_start, growing_more, growing_agrees, growing_all}

@@ -1,4 +1,4 @@
-use Rattle.std.proofs.Common.{◌≡◌, ℕ, ◌+◌, ◌*◌, ◌/◌, ◌%◌, List, ◌∷◌, Some, None, Option, sym, ap, ◌∙◌, arith}
+use Rattle.std.proofs.Common.{ℕ, ◌+◌, ◌*◌, ◌/◌, ◌%◌, ◌∷◌, Some, None, Option, sym, ap, ◌∙◌, arith}
 use Rattle.reading.specs.AnswerBytes.{numbers_in}
 use Rattle.reading.proofs.answers.read_byte.Goals as goal
 

@@ -1,4 +1,4 @@
-use Rattle.std.proofs.Common.{ℕ, ◌/◌, ◌^◌, ◌<◌, eqb, sym, ap, ◌∙◌, lt_of_lt_of_le, arith, pow_mono, rules}
+use Rattle.std.proofs.Common.{ℕ, ◌/◌, ◌^◌, ◌<◌, eqb, sym, ap, ◌∙◌, lt_of_lt_of_le, pow_mono, rules}
 use lib.Bits.{and_mask}
 use Rattle.std.proofs.lemmas.Bool.{le-ltb}
 use Rattle.attributes.proofs.Numbers.{has_bit, has_past}

@@ -1,4 +1,4 @@
-use Rattle.std.proofs.Common.{not, ap, ◌∙◌}
+use Rattle.std.proofs.Common.{not, ap}
 use Rattle.attributes.proofs.Numbers.{disjoint_bits}
 use Rattle.attributes.proofs.set.AttributeSet.meets.Goals as goal
 

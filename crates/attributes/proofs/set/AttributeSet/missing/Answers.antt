@@ -3,7 +3,7 @@ use lib.Bits.{bit_and}
 use lib.Count.{ones}
 use Rattle.std.proofs.lemmas.Nat.{mod_below, pow_pos}
 use Rattle.attributes.specs.Numbers.{set_in}
-use Rattle.attributes.specs.Sets.{Set, missing}
+use Rattle.attributes.specs.Sets.{missing}
 use Rattle.attributes.proofs.Numbers.{everything_mask, missing_bits, set_in_mod}
 use Rattle.attributes.proofs.set.AttributeSet.missing.Goals as goal
 

@@ -1,4 +1,4 @@
-use Rattle.std.proofs.Common.{◌≡◌, Bool, true, false, not, ◌||◌, sym, refl, ◌∙◌}
+use Rattle.std.proofs.Common.{◌≡◌, Bool, true, false, not, ◌||◌}
 use Rattle.contexts.specs.Contexts.{respects}
 use Rattle.contexts.proofs.implication.Implication.is_respected_by.Goals as goal
 

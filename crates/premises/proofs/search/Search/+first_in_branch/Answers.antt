@@ -1,17 +1,17 @@
-use Rattle.std.proofs.Common.{◌≡◌, ℕ, ◌+◌, ◌<◌, ◌≤◌, Bool, true, false, List, length, set, is_some, Some, None, Option, sym, refl, ap, ◌∙◌, subst, arith, length-set, rules}
+use Rattle.std.proofs.Common.{◌≡◌, ℕ, ◌<◌, true, false, List, length, set, is_some, Some, None, Option, sym, refl, ◌∙◌, subst, arith, length-set, rules}
 use Rattle.std.proofs.lemmas.Bool.{not-true, not-false}
 use Rattle.std.specs.Option.{option_map}
-use Rattle.attributes.specs.Numbers.{set_in, number_of}
+use Rattle.attributes.specs.Numbers.{set_in}
 use Rattle.attributes.specs.Sets.{Set, has}
 use Rattle.attributes.specs.declared.set.AttributeSet.{AttributeSet}
-use Rattle.attributes.proofs.Numbers.{length_set_in, number_of_set_in}
+use Rattle.attributes.proofs.Numbers.{length_set_in}
 use Rattle.contexts.specs.Contexts.{Implication}
 use Rattle.implications.specs.Implications.{Closure}
 use Rattle.implications.specs.Values.{implications_in}
 use Rattle.premises.specs.Forced.{closure}
-use Rattle.premises.specs.Branches.{Agree, FirstInBranch, FoundInBranch}
+use Rattle.premises.specs.Branches.{FirstInBranch}
 use Rattle.premises.specs.Open.{is_open}
-use Rattle.premises.proofs.Branching.{last_found, last_none, kept_found, NoneWithout, without_some, without_none, without_before, with_found, with_none, with_even, same_agree, agree_same}
+use Rattle.premises.proofs.Branching.{last_found, last_none, kept_found, NoneWithout, without_some, without_none, without_before, with_found, with_none, with_even}
 use Rattle.premises.proofs.Closures.{closure_is_common, implications_over}
 use Rattle.premises.proofs.Open.{open_from, shut_from}
 use Rattle.premises.proofs.search.Search.+first_in_branch.Goals as goal

@@ -1,8 +1,7 @@
-use Rattle.std.proofs.Common.{◌≡◌, ℕ, ◌^◌, ◌<◌, ◌≤◌, true, List, set, sym, ap, ◌∙◌, subst, arith}
+use Rattle.std.proofs.Common.{◌≡◌, ℕ, true, List, set, sym, ap, ◌∙◌, subst, arith}
 use Rattle.std.proofs.lemmas.Bool.{both_ways, eq-eqb, eqb-true}
-use Rattle.attributes.specs.Numbers.{set_in, number_of}
+use Rattle.attributes.specs.Numbers.{set_in}
 use Rattle.attributes.specs.Sets.{Set}
-use Rattle.attributes.proofs.Numbers.{number_of_set_in}
 use Rattle.contexts.specs.Contexts.{Implication}
 use Rattle.implications.specs.Implications.{Closure}
 use Rattle.implications.specs.Values.{implications_in}
