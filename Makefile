@@ -3,8 +3,7 @@
 
 .PHONY: run test
 run:
-	@rt check explore
-	@target/bin/explore < crates/explore/stdin
+	@cd crates/explore && rt run < stdin
 
 test:
 	@tests/gate
