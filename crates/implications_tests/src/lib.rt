@@ -54,19 +54,26 @@ mod tests {
         })
     }
 
-    fn check_common(rt: &impl Abort, asked: u64, answer: u64) -> Result<(), Fail> {
-        assert_eq!(rt; common(nine()?, &BEINGS, set(asked)?).number(), answer);
+    fn check_common(rt: &impl Abort, asked: u64, answer: u64, note: &str) -> Result<(), Fail> {
+        assert_eq!(rt;
+            common(nine()?, &BEINGS, set(asked)?).number(),
+            answer,
+            "{note}"
+        );
         Ok(())
     }
 
     #[test]
     fn beings_in_common(rt: HostRuntime) -> Result<(), Fail> {
-        check_common(&rt, 0, 0b0_0000_0001).note("all need water")?;
-        check_common(&rt, 0b0_0000_1000, 0b0_0000_1001).note("chlorophyll")?;
-        check_common(&rt, 0b0_1000_0000, 0b0_1100_0001).note("limbs")?;
-        check_common(&rt, 0b0_0000_0110, 0b0_0000_0111).note("in water and on land")?;
-        check_common(&rt, 0b1_0000_0000, 0b1_1100_0101).note("the dog")?;
-        check_common(&rt, 0b0_0011_0000, 0b1_1111_1111).note(
+        check_common(&rt, 0, 0b0_0000_0001, "all need water")?;
+        check_common(&rt, 0b0_0000_1000, 0b0_0000_1001, "chlorophyll")?;
+        check_common(&rt, 0b0_1000_0000, 0b0_1100_0001, "limbs")?;
+        check_common(&rt, 0b0_0000_0110, 0b0_0000_0111, "in water and on land")?;
+        check_common(&rt, 0b1_0000_0000, 0b1_1100_0101, "the dog")?;
+        check_common(
+            &rt,
+            0b0_0011_0000,
+            0b1_1111_1111,
             "no plant has both kinds of seed leaves",
         )
     }
