@@ -9,7 +9,7 @@ mod tests {
     use implications::{Listed, nth};
     use reading::{behind_list, context_from_bytes, list_from_bytes};
     use std::process::Abort;
-    use std::test::*;
+    use std::test::Fail;
 
     // leech, bream, frog, dog, spike-weed, reed, bean, maize
     const BEINGS: [u64; 10] = [

@@ -5,7 +5,7 @@
 mod tests {
     use exploration::{ROW_LENGTH, open, question, take_answer};
     use std::process::Abort;
-    use std::test::*;
+    use std::test::Fail;
 
     // The number and the place of the refusal to open a row of a length.
     fn refused(
@@ -90,10 +90,14 @@ mod tests {
         }
     }
 
-    fn asks(rt: &HostRuntime, row: Result<Vec<u64>, Fail>, text: &str) -> Result<(), Fail> {
+    fn asks(
+        rt: &(impl Abort + AllocGlobal),
+        row: Result<Vec<u64>, Fail>,
+        text: &str,
+    ) -> Result<(), Fail> {
         let row = row?;
         let asked = format!(in rt.alloc(); "{}", question(row.as_slice()))?;
-        assert_eq!(asked.as_str(), text);
+        assert_eq!(rt; asked.as_str(), text);
         Ok(())
     }
 
