@@ -26,40 +26,52 @@ mod tests {
     ];
 
     // The reply and how many implications were written, as text; the output held 7 everywhere.
-    fn told(rt: &HostRuntime, reply: Reply, base: &[u64], text: &str) -> Result<(), Fail> {
-        assert!(base.len() > 2);
+    fn told(
+        rt: &(impl Abort + AllocGlobal),
+        reply: Reply,
+        base: &[u64],
+        text: &str,
+        note: &str,
+    ) -> Result<(), Fail> {
+        assert!(rt; base.len() > 2);
         match reply {
             Reply::Written => {
                 let written = format!(in rt.alloc(); "written {} of {}", base[1], base[0])?;
-                assert_eq!(written.as_str(), text);
+                assert_eq!(rt; written.as_str(), text, "{note}");
                 Ok(())
             }
             Reply::Refused(refusal) => {
-                assert_eq!(base[0], 7, "a refusal leaves the output");
-                assert_eq!(base[1], 7);
-                assert_eq!(base[2], 7);
+                assert_eq!(rt; base[0], 7, "a refusal leaves the output: {note}");
+                assert_eq!(rt; base[1], 7);
+                assert_eq!(rt; base[2], 7);
                 let refused = format!(in rt.alloc(); "{refusal}")?;
-                assert_eq!(refused.as_str(), text);
+                assert_eq!(rt; refused.as_str(), text, "{note}");
                 Ok(())
             }
         }
     }
 
     fn context_told(
-        rt: &HostRuntime,
+        rt: &(impl Abort + AllocGlobal),
         context: &[u64],
         length: usize,
         text: &str,
+        note: &str,
     ) -> Result<(), Fail> {
         let mut base = vec![in rt.alloc(); 7u64; length]?;
         let reply = base_of_context(context, base.as_mut_slice());
-        told(rt, reply, base.as_slice(), text)
+        told(rt, reply, base.as_slice(), text, note)
     }
 
-    fn list_told(rt: &HostRuntime, list: &[u64], text: &str) -> Result<(), Fail> {
+    fn list_told(
+        rt: &(impl Abort + AllocGlobal),
+        list: &[u64],
+        text: &str,
+        note: &str,
+    ) -> Result<(), Fail> {
         let mut base = vec![in rt.alloc(); 7u64; BASE_LENGTH]?;
         let reply = base_of_list(list, base.as_mut_slice());
-        told(rt, reply, base.as_slice(), text)
+        told(rt, reply, base.as_slice(), text, note)
     }
 
     // The implication at a place of a list of so many attributes, as text.
@@ -83,7 +95,7 @@ mod tests {
 
     #[test]
     fn beings(rt: HostRuntime) -> Result<(), Fail> {
-        context_told(&rt, &BEINGS, BASE_LENGTH, "written 10 of 9")?;
+        context_told(&rt, &BEINGS, BASE_LENGTH, "written 10 of 9", "beings")?;
         let mut base = vec![in rt.alloc(); 7u64; BASE_LENGTH + 1]?;
         let _ = base_of_context(&BEINGS, base.as_mut_slice());
         at(&rt, 9, base.as_slice(), 0, "-: 0")?;
@@ -112,20 +124,64 @@ mod tests {
 
     #[test]
     fn contexts_at_the_limits(rt: HostRuntime) -> Result<(), Fail> {
-        context_told(&rt, &[0, 0], BASE_LENGTH, "written 0 of 0")?;
-        context_told(&rt, &[3, 0], BASE_LENGTH, "written 1 of 3").note("no object has any")?;
-        context_told(&rt, &[1, 2, 0, 1], BASE_LENGTH, "written 0 of 1")?;
-        context_told(&rt, &[12, 1, 4095, 99999], BASE_LENGTH, "written 1 of 12").note(
+        context_told(&rt, &[0, 0], BASE_LENGTH, "written 0 of 0", "no attributes")?;
+        context_told(
+            &rt,
+            &[3, 0],
+            BASE_LENGTH,
+            "written 1 of 3",
+            "no object has any",
+        )?;
+        context_told(
+            &rt,
+            &[1, 2, 0, 1],
+            BASE_LENGTH,
+            "written 0 of 1",
+            "one object without and one with it",
+        )?;
+        context_told(
+            &rt,
+            &[12, 1, 4095, 99999],
+            BASE_LENGTH,
+            "written 1 of 12",
             "behind the rows anything may stand",
         )?;
-        context_told(&rt, &[5, 0], BASE_LENGTH - 1, "refused 1 at 8193")?;
-        context_told(&rt, &[13, 1], 100, "refused 1 at 100").note("1 is told before 2")?;
-        context_told(&rt, &[13, 1], BASE_LENGTH, "refused 2 at 0").note("2 is told before 8")?;
-        context_told(&rt, &[13], BASE_LENGTH, "refused 2 at 0")?;
-        context_told(&rt, &[], BASE_LENGTH, "refused 8 at 0")?;
-        context_told(&rt, &[4], BASE_LENGTH, "refused 8 at 0")?;
-        context_told(&rt, &[4, 3, 1, 2], BASE_LENGTH, "refused 8 at 2").note("cut short")?;
-        context_told(&rt, &[4, 9, 1, 16], BASE_LENGTH, "refused 8 at 1").note(
+        context_told(
+            &rt,
+            &[5, 0],
+            BASE_LENGTH - 1,
+            "refused 1 at 8193",
+            "the output is too short",
+        )?;
+        context_told(&rt, &[13, 1], 100, "refused 1 at 100", "1 is told before 2")?;
+        context_told(
+            &rt,
+            &[13, 1],
+            BASE_LENGTH,
+            "refused 2 at 0",
+            "2 is told before 8",
+        )?;
+        context_told(
+            &rt,
+            &[13],
+            BASE_LENGTH,
+            "refused 2 at 0",
+            "2 is told before a count that is missing",
+        )?;
+        context_told(&rt, &[], BASE_LENGTH, "refused 8 at 0", "nothing is lent")?;
+        context_told(&rt, &[4], BASE_LENGTH, "refused 8 at 0", "no count")?;
+        context_told(
+            &rt,
+            &[4, 3, 1, 2],
+            BASE_LENGTH,
+            "refused 8 at 2",
+            "cut short",
+        )?;
+        context_told(
+            &rt,
+            &[4, 9, 1, 16],
+            BASE_LENGTH,
+            "refused 8 at 1",
             "an attribute that is not there",
         )
     }
@@ -134,24 +190,60 @@ mod tests {
     fn too_many_rows(rt: HostRuntime) -> Result<(), Fail> {
         let mut row = vec![in rt.alloc(); 1u64; 5000]?;
         row[1] = 4096;
-        context_told(&rt, row.as_slice(), BASE_LENGTH, "written 1 of 1")?;
+        context_told(
+            &rt,
+            row.as_slice(),
+            BASE_LENGTH,
+            "written 1 of 1",
+            "as many as there may be",
+        )?;
         row[1] = 4097;
-        context_told(&rt, row.as_slice(), BASE_LENGTH, "refused 8 at 4096")?;
+        context_told(
+            &rt,
+            row.as_slice(),
+            BASE_LENGTH,
+            "refused 8 at 4096",
+            "one more",
+        )?;
         row[4000] = 2;
-        context_told(&rt, row.as_slice(), BASE_LENGTH, "refused 8 at 3998").note(
+        context_told(
+            &rt,
+            row.as_slice(),
+            BASE_LENGTH,
+            "refused 8 at 3998",
             "the first row at fault",
         )
     }
 
     #[test]
     fn lists_at_the_limits(rt: HostRuntime) -> Result<(), Fail> {
-        list_told(&rt, &[3, 0], "written 0 of 3")?;
-        list_told(&rt, &[3, 1, 1, 1], "written 0 of 3").note("says nothing")?;
-        list_told(&rt, &[3, 2, 1, 2, 1, 4], "written 1 of 3").note("two with one premise")?;
-        list_told(&rt, &[3, 2, 1, 2, 1], "refused 8 at 1").note("cut short in the middle")?;
-        list_told(&rt, &[3, 1, 1, 8], "refused 8 at 0")?;
-        list_told(&rt, &[3, 1, 8, 1], "refused 8 at 0")?;
-        list_told(&rt, &[14, 0], "refused 2 at 0")
+        list_told(&rt, &[3, 0], "written 0 of 3", "no rules")?;
+        list_told(&rt, &[3, 1, 1, 1], "written 0 of 3", "says nothing")?;
+        list_told(
+            &rt,
+            &[3, 2, 1, 2, 1, 4],
+            "written 1 of 3",
+            "two with one premise",
+        )?;
+        list_told(
+            &rt,
+            &[3, 2, 1, 2, 1],
+            "refused 8 at 1",
+            "cut short in the middle",
+        )?;
+        list_told(
+            &rt,
+            &[3, 1, 1, 8],
+            "refused 8 at 0",
+            "a conclusion that is not there",
+        )?;
+        list_told(
+            &rt,
+            &[3, 1, 8, 1],
+            "refused 8 at 0",
+            "a premise that is not there",
+        )?;
+        list_told(&rt, &[14, 0], "refused 2 at 0", "too many attributes")
     }
 
     // 80 implications over 12 attributes, where eleven say the same: each attribute brings every later one, and some say it again.
@@ -172,7 +264,7 @@ mod tests {
             list.push(3u64 << earlier)?;
         }
         assert_eq!(rt; list.len(), 162);
-        list_told(&rt, list.as_slice(), "written 11 of 12")?;
+        list_told(&rt, list.as_slice(), "written 11 of 12", "eighty rules")?;
         let mut base = vec![in rt.alloc(); 7u64; BASE_LENGTH]?;
         let _ = base_of_list(list.as_slice(), base.as_mut_slice());
         at(&rt, 12, base.as_slice(), 0, "10: 10 11")?;
@@ -225,14 +317,14 @@ mod tests {
     #[test]
     fn bytes_to_rows(rt: HostRuntime) -> Result<(), Fail> {
         let context = context_from_bytes(rt.alloc(), 12, &[0x11, 0x02, 0x02, 0x00, 0x01])?;
-        assert!(rt; context.as_slice() == [12, 3, 0x102, 65536]);
+        assert!(rt; context.as_slice() == [12, 3, 0x102, 65536].as_slice());
         let bytes = [0, 1, 0x01, 0x02, 0x00, 0x03, 0, 2, 0, 0, 0];
         let first = list_from_bytes(rt.alloc(), 9, &bytes)?;
-        assert!(rt; first.as_slice() == [9, 1, 0x102, 3]);
+        assert!(rt; first.as_slice() == [9, 1, 0x102, 3].as_slice());
         let second = list_from_bytes(rt.alloc(), 9, behind_list(&bytes))?;
-        assert!(rt; second.as_slice() == [9, 2, 0]);
+        assert!(rt; second.as_slice() == [9, 2, 0].as_slice());
         let third = list_from_bytes(rt.alloc(), 9, behind_list(behind_list(&bytes)))?;
-        assert!(rt; third.as_slice() == [9]);
+        assert!(rt; third.as_slice() == [9].as_slice());
         Ok(())
     }
 }
