@@ -8,13 +8,17 @@ use bases::{BASE_LENGTH, Refusal, Reply, base_of_list, implications_of};
 use comparisons::compare;
 use reading::{behind_list, list_from_bytes};
 use std::io::Read;
+use std::process::ExitCode;
 
-fn main(rt: HostRuntime) -> anyhow::Result<()> {
-    let ended = run(&rt);
-    if let Err(error) = &ended {
-        eprintln!(rt; "comparelists: {error}")?;
+// An error is told on the standard error in one line; a main that returned it would tell it a second time.
+fn main(rt: HostRuntime) -> ExitCode {
+    match run(&rt) {
+        Ok(()) => ExitCode::SUCCESS,
+        Err(error) => {
+            let _ = eprintln!(rt; "comparelists: {error}");
+            ExitCode::FAILURE
+        }
     }
-    ended
 }
 
 fn run(rt: &HostRuntime) -> anyhow::Result<()> {

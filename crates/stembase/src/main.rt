@@ -7,13 +7,17 @@ use bases::{BASE_LENGTH, Reply, base_of_context, implications_of};
 use implications::Listed;
 use reading::context_from_bytes;
 use std::io::Read;
+use std::process::ExitCode;
 
-fn main(rt: HostRuntime) -> anyhow::Result<()> {
-    let ended = run(&rt);
-    if let Err(error) = &ended {
-        eprintln!(rt; "stembase: {error}")?;
+// An error is told on the standard error in one line; a main that returned it would tell it a second time.
+fn main(rt: HostRuntime) -> ExitCode {
+    match run(&rt) {
+        Ok(()) => ExitCode::SUCCESS,
+        Err(error) => {
+            let _ = eprintln!(rt; "stembase: {error}");
+            ExitCode::FAILURE
+        }
     }
-    ended
 }
 
 fn run(rt: &HostRuntime) -> anyhow::Result<()> {
