@@ -6,7 +6,8 @@ use crate::rows::{EXAMPLES, RULES, at, part, put};
 use exploration::{question, take_answer};
 use replies::Reply;
 use std::alloc::{AllocError, Global};
-use std::test::*;
+use std::process::Abort;
+use std::test::Fail;
 
 // A length of a row, at times too short.
 fn drawn_length(draw: &mut Draw) -> usize {
@@ -103,37 +104,47 @@ fn drawn_answer(draw: &mut Draw, n: u32, premise: u64) -> [u64; 3] {
 }
 
 // What is asked must be this rule, or nothing.
-fn check_asked(reply: Reply, asked: Option<Rule>) -> Result<(), Fail> {
+fn check_asked(rt: &impl Abort, reply: Reply, asked: Option<Rule>, round: u32) -> Result<(), Fail> {
     let Some(asked) = asked else {
-        assert!(matches!(reply, Reply::Finished));
+        assert!(rt; matches!(reply, Reply::Finished), "round {round}");
         return Ok(());
     };
     let Reply::Question(found) = reply else {
-        return Err(Fail::new("no question"));
+        return Err(Fail::new(format_args!("no question in round {round}")));
     };
-    assert_eq!(found.premise.number(), asked.premise);
-    assert_eq!(found.conclusion.number(), asked.conclusion);
+    assert_eq!(rt; found.premise.number(), asked.premise, "round {round}");
+    assert_eq!(rt;
+        found.conclusion.number(),
+        asked.conclusion,
+        "round {round}"
+    );
     Ok(())
 }
 
 // The reply to a refusal must tell its number and place, and else what is asked in the row.
-fn check_reply(reply: Reply, verdict: Verdict, row: &[u64]) -> Result<(), Fail> {
+fn check_reply(
+    rt: &impl Abort,
+    reply: Reply,
+    verdict: Verdict,
+    row: &[u64],
+    round: u32,
+) -> Result<(), Fail> {
     let Verdict::Refused(fault, place) = verdict else {
-        return check_asked(reply, asked_in(row));
+        return check_asked(rt, reply, asked_in(row), round);
     };
     let Reply::Refused(refusal) = reply else {
-        return Err(Fail::new("no refusal"));
+        return Err(Fail::new(format_args!("no refusal in round {round}")));
     };
-    assert_eq!(refusal.number(), fault.number());
-    assert_eq!(refusal.place(), place);
+    assert_eq!(rt; refusal.number(), fault.number(), "round {round}");
+    assert_eq!(rt; refusal.place(), place, "round {round}");
     Ok(())
 }
 
 // What is asked in a row, or why it is refused.
-fn check_question(row: &[u64]) -> Result<(), Fail> {
+fn check_question(rt: &impl Abort, row: &[u64], round: u32) -> Result<(), Fail> {
     match row_fault(row) {
-        Some(refused) => check_reply(question(row), refused, row),
-        None => check_asked(question(row), asked_in(row)),
+        Some(refused) => check_reply(rt, question(row), refused, row, round),
+        None => check_asked(rt, question(row), asked_in(row), round),
     }
 }
 
@@ -154,7 +165,13 @@ impl Rows {
     }
 
     // The answer does what the judge says, and the rows are then the same.
-    fn check_answer(&mut self, answer: &[u64], tally: &mut [u64]) -> Result<(), Fail> {
+    fn check_answer(
+        &mut self,
+        rt: &impl Abort,
+        answer: &[u64],
+        tally: &mut [u64],
+        round: u32,
+    ) -> Result<(), Fail> {
         let verdict = judged(self.judges.as_slice(), answer);
         write(self.judges.as_mut_slice(), verdict);
         put(
@@ -163,13 +180,23 @@ impl Rows {
             at(tally, verdict.place()).saturating_add(1),
         );
         let reply = take_answer(self.row.as_mut_slice(), answer);
-        assert!(self.row.as_slice() == self.judges.as_slice());
-        check_reply(reply, verdict, self.row.as_slice())
+        assert!(rt;
+            self.row.as_slice() == self.judges.as_slice(),
+            "round {round}"
+        );
+        check_reply(rt, reply, verdict, self.row.as_slice(), round)
     }
 
     // Some answers, most of them of two numbers.
-    fn check_answers(&mut self, draw: &mut Draw, n: u32, tally: &mut [u64]) -> Result<(), Fail> {
-        check_question(self.row.as_slice())?;
+    fn check_answers(
+        &mut self,
+        rt: &impl Abort,
+        draw: &mut Draw,
+        n: u32,
+        tally: &mut [u64],
+        round: u32,
+    ) -> Result<(), Fail> {
+        check_question(rt, self.row.as_slice(), round)?;
         for _ in 0..6 {
             let answer = drawn_answer(draw, n, premise_in(self.row.as_slice()));
             let length = match draw.below(8) {
@@ -178,7 +205,7 @@ impl Rows {
                 2 => 3,
                 _ => 2,
             };
-            self.check_answer(part(&answer, 0, length), tally)?;
+            self.check_answer(rt, part(&answer, 0, length), tally, round)?;
         }
         Ok(())
     }
@@ -186,6 +213,7 @@ impl Rows {
 
 // So many rows, with numbers of attributes that go round from the fewest.
 fn check_rows(
+    rt: &impl Abort,
     heap: Global,
     rounds: u32,
     fewest: u32,
@@ -196,8 +224,7 @@ fn check_rows(
     for round in 0..rounds {
         let n = fewest.saturating_add(round % 6);
         let mut rows = Rows::new(heap, &mut draw, n, many)?;
-        rows.check_answers(&mut draw, n, tally)
-            .note(format_args!("round {round}"))?;
+        rows.check_answers(rt, &mut draw, n, tally, round)?;
     }
     Ok(())
 }
@@ -205,7 +232,7 @@ fn check_rows(
 #[test]
 fn every_verdict_is_met(rt: HostRuntime) -> Result<(), Fail> {
     let mut tally = [0u64; VERDICTS];
-    check_rows(rt.alloc(), 1500, 0, 4096, &mut tally)?;
+    check_rows(&rt, rt.alloc(), 1500, 0, 4096, &mut tally)?;
     for (place, times) in tally.iter().enumerate() {
         assert!(rt; *times > 0, "verdict {place} is not met");
     }
@@ -214,5 +241,5 @@ fn every_verdict_is_met(rt: HostRuntime) -> Result<(), Fail> {
 
 #[test]
 fn rows_of_many_attributes(rt: HostRuntime) -> Result<(), Fail> {
-    check_rows(rt.alloc(), 600, 7, 20, &mut [])
+    check_rows(&rt, rt.alloc(), 600, 7, 20, &mut [])
 }

@@ -6,7 +6,8 @@ use bases::{BASE_LENGTH, Reply as BaseReply, base_of_context, base_of_list, impl
 use exploration::{ROW_LENGTH, open, question, take_all, take_answer};
 use replies::Reply;
 use std::alloc::{AllocError, Global};
-use std::test::*;
+use std::process::Abort;
+use std::test::Fail;
 
 // A yard and what is found of it: the row of a dialogue, the answers given in it, and the naive base; and memory that is lent to the library.
 #[derive(Drop)]
@@ -90,7 +91,7 @@ impl Found {
     }
 
     // Leads a dialogue about the yard to its end. Twice 2^n answers suffice, and none is refused.
-    pub fn hold(&mut self, n: u32, draw: &mut Draw) -> Result<(), Fail> {
+    pub fn hold(&mut self, n: u32, draw: &mut Draw, note: &str) -> Result<(), Fail> {
         self.answers.clear();
         let _ = open(self.row.as_mut_slice(), u64::from(n));
         let mut reply = question(self.row.as_slice());
@@ -108,48 +109,83 @@ impl Found {
         }
         match reply {
             Reply::Finished => Ok(()),
-            Reply::Question(_) => Err(Fail::new("too many questions")),
-            Reply::Refused(refusal) => Err(Fail::new(refusal)),
+            Reply::Question(_) => Err(Fail::new(format_args!("{note}: too many questions"))),
+            Reply::Refused(refusal) => Err(Fail::new(format_args!("{note}: {refusal}"))),
         }
     }
 
     // The dialogue confirms the naive base, in its order.
-    fn check_confirmed(&mut self, n: u32, draw: &mut Draw) -> Result<(), Fail> {
-        self.hold(n, draw)?;
-        assert_eq!(confirmed_in(self.row.as_slice()), self.naive.as_slice());
+    fn check_confirmed(
+        &mut self,
+        rt: &impl Abort,
+        n: u32,
+        draw: &mut Draw,
+        note: &str,
+    ) -> Result<(), Fail> {
+        self.hold(n, draw, note)?;
+        assert_eq!(rt;
+            confirmed_in(self.row.as_slice()),
+            self.naive.as_slice(),
+            "{note}"
+        );
         Ok(())
     }
 
     // The same answers given at once leave the same row.
-    fn check_at_once(&mut self, heap: Global, n: u32) -> Result<(), Fail> {
+    fn check_at_once(
+        &mut self,
+        rt: &impl Abort,
+        heap: Global,
+        n: u32,
+        note: &str,
+    ) -> Result<(), Fail> {
         let answers = self.answers.as_slice();
         let dialogue = take_all(heap, self.again.as_mut_slice(), u64::from(n), answers);
-        assert!(dialogue.is_ok());
-        assert_eq!(confirmed_in(self.again.as_slice()), self.naive.as_slice());
-        assert_eq!(
+        assert!(rt; dialogue.is_ok(), "{note}");
+        assert_eq!(rt;
+            confirmed_in(self.again.as_slice()),
+            self.naive.as_slice(),
+            "{note}"
+        );
+        assert_eq!(rt;
             examples_in(self.again.as_slice()),
-            examples_in(self.row.as_slice())
+            examples_in(self.row.as_slice()),
+            "{note}"
         );
         Ok(())
     }
 
     // The library's bases of the yard, and of the naive base with spare rules, are the naive base.
-    pub fn check_bases(&mut self, n: u32, draw: &mut Draw) -> Result<(), Fail> {
+    pub fn check_bases(
+        &mut self,
+        rt: &impl Abort,
+        n: u32,
+        draw: &mut Draw,
+        note: &str,
+    ) -> Result<(), Fail> {
         stem_base(n, self.yard.as_slice(), &mut self.naive)?;
         write_context(n, self.yard.as_slice(), &mut self.list)?;
         let reply = base_of_context(self.list.as_slice(), self.base.as_mut_slice());
-        assert!(matches!(reply, BaseReply::Written));
-        assert_eq!(implications_of(self.base.as_slice()), self.naive.as_slice());
+        assert!(rt; matches!(reply, BaseReply::Written), "{note}");
+        assert_eq!(rt;
+            implications_of(self.base.as_slice()),
+            self.naive.as_slice(),
+            "{note}"
+        );
         let naive = self.naive.as_slice();
         write_list(n, self.yard.as_slice(), naive, draw, &mut self.list)?;
         let reply = base_of_list(self.list.as_slice(), self.base.as_mut_slice());
-        assert!(matches!(reply, BaseReply::Written));
-        assert_eq!(implications_of(self.base.as_slice()), self.naive.as_slice());
+        assert!(rt; matches!(reply, BaseReply::Written), "{note}");
+        assert_eq!(rt;
+            implications_of(self.base.as_slice()),
+            self.naive.as_slice(),
+            "{note}"
+        );
         Ok(())
     }
 
     // Each rule over n attributes holds for the examples exactly if it holds in the yard, and follows from those confirmed exactly then.
-    fn check_every_rule(&self, n: u32) -> Result<(), Fail> {
+    fn check_every_rule(&self, rt: &impl Abort, n: u32, note: &str) -> Result<(), Fail> {
         let row = self.row.as_slice();
         for premise in 0..power(n) {
             for conclusion in 0..power(n) {
@@ -158,26 +194,34 @@ impl Found {
                     conclusion,
                 };
                 let holds = rule.holds(self.yard.as_slice());
-                assert!(rule.holds(examples_in(row)) == holds);
-                assert!(follows(n, confirmed_in(row), rule) == holds);
+                assert!(rt; rule.holds(examples_in(row)) == holds, "{note}");
+                assert!(rt; follows(n, confirmed_in(row), rule) == holds, "{note}");
             }
         }
         Ok(())
     }
 
-    fn check_yard(&mut self, heap: Global, n: u32, draw: &mut Draw) -> Result<(), Fail> {
-        self.check_bases(n, draw)?;
-        self.check_confirmed(n, draw)?;
-        self.check_at_once(heap, n)?;
+    fn check_yard(
+        &mut self,
+        rt: &impl Abort,
+        heap: Global,
+        n: u32,
+        draw: &mut Draw,
+        note: &str,
+    ) -> Result<(), Fail> {
+        self.check_bases(rt, n, draw, note)?;
+        self.check_confirmed(rt, n, draw, note)?;
+        self.check_at_once(rt, heap, n, note)?;
         if n > 5 {
             return Ok(());
         }
-        self.check_every_rule(n)
+        self.check_every_rule(rt, n, note)
     }
 
     // Yards of n attributes and of these counts of objects, with few, half or most of the attributes.
     fn check_yards(
         &mut self,
+        rt: &impl Abort,
         heap: Global,
         n: u32,
         counts: &[usize],
@@ -187,9 +231,10 @@ impl Found {
         for count in counts {
             for chances in [1, 4, 6, 7] {
                 self.draw_yard(n, *count, chances, &mut draw)?;
-                self.check_yard(heap, n, &mut draw).note(format_args!(
+                let note = format!(in heap;
                     "n {n}, {count} objects, {chances} chances, seed {seed}"
-                ))?;
+                )?;
+                self.check_yard(rt, heap, n, &mut draw, note.as_str())?;
             }
         }
         Ok(())
@@ -201,7 +246,7 @@ fn yards_of_few_attributes(rt: HostRuntime) -> Result<(), Fail> {
     let mut found = Found::new(rt.alloc())?;
     for n in 0..6 {
         for seed in 0..50 {
-            found.check_yards(rt.alloc(), n, &[0, 1, 2, 3, 5, 9, 20], seed)?;
+            found.check_yards(&rt, rt.alloc(), n, &[0, 1, 2, 3, 5, 9, 20], seed)?;
         }
     }
     Ok(())
@@ -212,7 +257,7 @@ fn yards_of_many_attributes(rt: HostRuntime) -> Result<(), Fail> {
     let mut found = Found::new(rt.alloc())?;
     for n in 6..13 {
         for seed in 0..10 {
-            found.check_yards(rt.alloc(), n, &[0, 1, 2, 3, 5, 9, 20, 80], seed)?;
+            found.check_yards(&rt, rt.alloc(), n, &[0, 1, 2, 3, 5, 9, 20, 80], seed)?;
         }
     }
     Ok(())

@@ -4,7 +4,7 @@ use crate::drawing::Draw;
 use crate::naive::{everything, is_within, lectic, power};
 use std::alloc::Global;
 use std::process::Abort;
-use std::test::*;
+use std::test::Fail;
 
 // These rules are the base of these objects, by the library and by the naive computation.
 fn check_known(
@@ -13,11 +13,12 @@ fn check_known(
     n: u32,
     objects: &[u64],
     rules: &[u64],
+    note: &str,
 ) -> Result<(), Fail> {
     let mut found = Found::new(heap)?;
     found.yard.extend_from_slice(objects)?;
-    found.check_bases(n, &mut Draw { state: 1 })?;
-    assert_eq!(rt; found.naive.as_slice(), rules);
+    found.check_bases(rt, n, &mut Draw { state: 1 }, note)?;
+    assert_eq!(rt; found.naive.as_slice(), rules, "{note}");
     Ok(())
 }
 
@@ -33,7 +34,7 @@ const OF_TRIANGLES: [u64; 8] = [
 
 #[test]
 fn triangles(rt: HostRuntime) -> Result<(), Fail> {
-    check_known(&rt, rt.alloc(), 5, &TRIANGLES, &OF_TRIANGLES)
+    check_known(&rt, rt.alloc(), 5, &TRIANGLES, &OF_TRIANGLES, "triangles")
 }
 
 // The objects are all sets of k attributes, k + 2 at most n: then each set of k + 1 brings everything, and there is no other rule, as the
@@ -50,7 +51,15 @@ fn check_sets_of(rt: &impl Abort, heap: Global, n: u32, k: u32) -> Result<(), Fa
             rules.extend_from_slice(&[s, everything(n)])?;
         }
     }
-    check_known(rt, heap, n, objects.as_slice(), rules.as_slice())
+    let note = format!(in heap; "the sets of {k} of {n} attributes")?;
+    check_known(
+        rt,
+        heap,
+        n,
+        objects.as_slice(),
+        rules.as_slice(),
+        note.as_str(),
+    )
 }
 
 #[test]
@@ -93,7 +102,15 @@ fn check_crowded(rt: &impl Abort, heap: Global, k: u32) -> Result<(), Fail> {
         }
     }
     assert_eq!(rt; rules.len() as u64, power(k).wrapping_mul(2));
-    check_known(rt, heap, n, objects.as_slice(), rules.as_slice())
+    let note = format!(in heap; "{k} pairs")?;
+    check_known(
+        rt,
+        heap,
+        n,
+        objects.as_slice(),
+        rules.as_slice(),
+        note.as_str(),
+    )
 }
 
 #[test]

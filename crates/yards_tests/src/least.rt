@@ -4,7 +4,8 @@ use crate::drawing::Draw;
 use crate::naive::{Rule, everything, is_within, power};
 use crate::rows::{at, put};
 use std::alloc::{AllocError, Global};
-use std::test::*;
+use std::process::Abort;
+use std::test::Fail;
 
 // How many sets of n attributes there are.
 fn sets(n: u32) -> u32 {
@@ -87,12 +88,18 @@ impl Tried {
         })
     }
 
-    fn check_least(&mut self, n: u32, draw: &mut Draw) -> Result<(), Fail> {
-        self.found.hold(n, draw)?;
+    fn check_least(
+        &mut self,
+        rt: &impl Abort,
+        n: u32,
+        draw: &mut Draw,
+        note: &str,
+    ) -> Result<(), Fail> {
+        self.found.hold(n, draw, note)?;
         respecting_each(n, self.found.yard.as_slice(), &mut self.each)?;
         let all = everything(sets(n));
         let least = shortest(self.marks.as_mut_slice(), self.each.as_slice(), all);
-        assert_eq!(at(self.found.row.as_slice(), 1), least);
+        assert_eq!(rt; at(self.found.row.as_slice(), 1), least, "{note}");
         Ok(())
     }
 
@@ -107,21 +114,33 @@ impl Tried {
         Ok(())
     }
 
-    fn check_every_yard(&mut self, n: u32, draw: &mut Draw) -> Result<(), Fail> {
+    fn check_every_yard(
+        &mut self,
+        rt: &impl Abort,
+        heap: Global,
+        n: u32,
+        draw: &mut Draw,
+    ) -> Result<(), Fail> {
         for number in 0..power(sets(n)) {
             self.number_yard(n, number)?;
-            self.check_least(n, draw)
-                .note(format_args!("n {n}, yard {number}"))?;
+            let note = format!(in heap; "n {n}, yard {number}")?;
+            self.check_least(rt, n, draw, note.as_str())?;
         }
         Ok(())
     }
 
-    fn check_some_yards(&mut self, n: u32, draw: &mut Draw) -> Result<(), Fail> {
+    fn check_some_yards(
+        &mut self,
+        rt: &impl Abort,
+        heap: Global,
+        n: u32,
+        draw: &mut Draw,
+    ) -> Result<(), Fail> {
         for count in 0..12 {
             for chances in 1..8 {
                 self.found.draw_yard(n, count, chances, draw)?;
-                self.check_least(n, draw)
-                    .note(format_args!("{count} objects, {chances} chances"))?;
+                let note = format!(in heap; "{count} objects, {chances} chances")?;
+                self.check_least(rt, n, draw, note.as_str())?;
             }
         }
         Ok(())
@@ -133,7 +152,7 @@ fn no_shorter_list(rt: HostRuntime) -> Result<(), Fail> {
     let mut tried = Tried::new(rt.alloc())?;
     let mut draw = Draw { state: 1 };
     for n in 0..4 {
-        tried.check_every_yard(n, &mut draw)?;
+        tried.check_every_yard(&rt, rt.alloc(), n, &mut draw)?;
     }
-    tried.check_some_yards(4, &mut draw)
+    tried.check_some_yards(&rt, rt.alloc(), 4, &mut draw)
 }
