@@ -1,7 +1,7 @@
 // Contexts whose bases are known.
-use crate::dialogues::Found;
 use crate::drawing::Draw;
 use crate::naive::{everything, is_within, lectic, power};
+use crate::yards::Found;
 use std::alloc::Global;
 use std::process::Abort;
 use std::test::Fail;

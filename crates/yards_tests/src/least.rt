@@ -1,8 +1,8 @@
 // That no shorter list will do, by trying every list.
-use crate::dialogues::Found;
 use crate::drawing::Draw;
 use crate::naive::{Rule, everything, is_within, power};
 use crate::rows::{at, put};
+use crate::yards::Found;
 use std::alloc::{AllocError, Global};
 use std::process::Abort;
 use std::test::Fail;

@@ -4,8 +4,6 @@
 #[cfg(test)]
 mod answers;
 #[cfg(test)]
-mod dialogues;
-#[cfg(test)]
 mod drawing;
 #[cfg(test)]
 mod judge;
@@ -17,3 +15,5 @@ mod least;
 mod naive;
 #[cfg(test)]
 mod rows;
+#[cfg(test)]
+mod yards;
