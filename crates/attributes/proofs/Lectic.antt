@@ -4,8 +4,13 @@ use Rattle.std.proofs.lemmas.List.{length-append, length-map, get_or_append_left
 use Rattle.std.proofs.lemmas.Bool.{cases_lt, lt-ltb, le-ltb, ltb-false}
 use Rattle.std.proofs.lemmas.Bool.Decides.{nat_tests}
 use Rattle.attributes.specs.Sets.{Set, subset}
+use Rattle.std.specs.Ordering.{bool_cmp, is_lt}
+use Rattle.std.specs.Cmp.Lexicographic.{slice_cmp}
+use Rattle.attributes.specs.Numbers.{set_in}
 use Rattle.attributes.specs.Lectic.{precedes, sets}
+use Rattle.attributes.specs.LecticOrder.{lectic_cmp, lectic_cmp_at}
 use Rattle.attributes.specs.Laws.{LecticAgrees, OrderLaws}
+use Rattle.attributes.proofs.Numbers.{length_set_in}
 
 twice : (n : ℕ) → 2 ^ suc n ≡ 2 ^ n + 2 ^ n
 twice n = omega (arith, pow-suc 2 n)
@@ -160,3 +165,17 @@ not_before n i j p q e =
 pub lectic_agrees : (n : ℕ) → LecticAgrees n
 unfolding Ordered
 lectic_agrees n = record { count = sets_count n; wide = wide n; listed = listed n; once = λ i j p q e. le_antisymm (not_before n j i q p (sym e)) (not_before n i j p q e); ordered = ordered n }
+
+cmp_precedes : (s t : Set) → length s ≡ length t → is_lt (slice_cmp bool_cmp s t) ≡ precedes s t
+unfolding precedes
+cmp_precedes [] [] e = refl
+cmp_precedes [] (y ∷ t) e = absurd (omega arith)
+cmp_precedes (x ∷ s) [] e = refl
+cmp_precedes (true ∷ s) (true ∷ t) e = cmp_precedes s t (omega arith)
+cmp_precedes (true ∷ s) (false ∷ t) e = refl
+cmp_precedes (false ∷ s) (true ∷ t) e = refl
+cmp_precedes (false ∷ s) (false ∷ t) e = cmp_precedes s t (omega arith)
+
+-- what `<` answers of two sets in the code
+pub less_precedes : (n a b : ℕ) → a < 2 ^ n → b < 2 ^ n → is_lt (lectic_cmp a b) ≡ precedes (set_in n a) (set_in n b)
+less_precedes n a b p q = ap is_lt (lectic_cmp_at n a b p q) ∙ cmp_precedes (set_in n a) (set_in n b) (length_set_in n a ∙ sym (length_set_in n b))

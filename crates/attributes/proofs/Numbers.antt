@@ -6,7 +6,10 @@ use lib.Count.{count_trailing_zeros, under, ones, ones_step, ones-le}
 use Rattle.std.proofs.lemmas.Nat.{mod-pow-add, shr-shr, one_shl}
 use Rattle.std.proofs.lemmas.Bool.{cases_eq, eq-eqb, ne_eqb}
 use Rattle.std.proofs.lemmas.Bool.Decides.{nat_tests}
-use Rattle.attributes.specs.Lectic.{precedes}
+use Rattle.std.specs.Ordering.{bool_cmp}
+use Rattle.std.specs.Cmp.{bool_cmp_total, tied_itself}
+use Rattle.std.specs.Cmp.Lexicographic.{slice_cmp}
+use Rattle.attributes.specs.LecticOrder.{set_cmp_total}
 use Rattle.attributes.specs.Sets.{Set, complement, everything, has, meet, missing, join, subset}
 use Rattle.attributes.specs.Numbers.{set_in, number_of}
 use Rattle.attributes.proofs.Sets.{length_everything}
@@ -157,15 +160,15 @@ pub has_past : (n m c : ℕ) → m < 2 ^ n → m < 2 ^ c → has (set_in n m) c 
 has_past n m c h k = sym (has_bit n m c h) ∙ ap (λ (x : ℕ). eqb (x % 2) 1) (div-eq_of_lt k)
 
 -- the lowest attribute in which two sets differ, found as the lowest bit of the two numbers' difference
-order_step : (x y t : ℕ) (a b : Set) → x < 2 → y < 2 → has b t ≡ precedes a b → has (eqb y 1 ∷ b) (under (differ x y) t) ≡ precedes (eqb x 1 ∷ a) (eqb y 1 ∷ b)
-unfolding precedes
-order_step zero zero t a b p q e = e
-order_step zero (suc zero) t a b p q e = refl
-order_step zero (suc (suc y)) t a b p q e = absurd (omega arith)
-order_step (suc zero) zero t a b p q e = refl
-order_step (suc zero) (suc zero) t a b p q e = e
-order_step (suc zero) (suc (suc y)) t a b p q e = absurd (omega arith)
-order_step (suc (suc x)) y t a b p q e = absurd (omega arith)
+cmp_step : (x y t : ℕ) (a b : Set) → x < 2 → y < 2 → bool_cmp (has a t) (has b t) ≡ slice_cmp bool_cmp a b
+    → bool_cmp (has (eqb x 1 ∷ a) (under (differ x y) t)) (has (eqb y 1 ∷ b) (under (differ x y) t)) ≡ slice_cmp bool_cmp (eqb x 1 ∷ a) (eqb y 1 ∷ b)
+cmp_step zero zero t a b p q e = e
+cmp_step zero (suc zero) t a b p q e = refl
+cmp_step zero (suc (suc y)) t a b p q e = absurd (omega arith)
+cmp_step (suc zero) zero t a b p q e = refl
+cmp_step (suc zero) (suc zero) t a b p q e = e
+cmp_step (suc zero) (suc (suc y)) t a b p q e = absurd (omega arith)
+cmp_step (suc (suc x)) y t a b p q e = absurd (omega arith)
 
 differ_small : (x y : ℕ) → x < 2 → y < 2 → differ x y < 2
 differ_small zero y p q = q
@@ -173,26 +176,23 @@ differ_small (suc zero) zero p q = omega arith
 differ_small (suc zero) (suc y) p q = omega arith
 differ_small (suc (suc x)) y p q = absurd (omega arith)
 
-precedes_itself : (s : Set) → precedes s s ≡ false
-unfolding precedes
-precedes_itself [] = refl
-precedes_itself (true ∷ s) = precedes_itself s
-precedes_itself (false ∷ s) = precedes_itself s
-
-pub precedes_bits : (k n a b : ℕ) → a < 2 ^ k → b < 2 ^ k → has (set_in n b) (count_trailing_zeros k (bit_xor a b)) ≡ precedes (set_in n a) (set_in n b)
-unfolding set_in count_trailing_zeros precedes
-precedes_bits k zero a b p q = refl
-precedes_bits zero (suc n) a b p q =
+pub cmp_bits : (k n a b : ℕ) → a < 2 ^ k → b < 2 ^ k
+    → bool_cmp (has (set_in n a) (count_trailing_zeros k (bit_xor a b))) (has (set_in n b) (count_trailing_zeros k (bit_xor a b))) ≡ slice_cmp bool_cmp (set_in n a) (set_in n b)
+unfolding set_in count_trailing_zeros
+cmp_bits k zero a b p q = refl
+cmp_bits zero (suc n) a b p q =
     let same : a ≡ b = omega arith in
-    let even : b % 2 ≡ 1 → ⊥ = λ e. omega arith in
-    ne_eqb (b % 2) 1 even ∙ sym (ap (λ (x : ℕ). precedes (set_in (suc n) x) (set_in (suc n) b)) same ∙ precedes_itself (set_in (suc n) b))
-precedes_bits (suc k) (suc n) a b p q =
+    let x : ℕ = count_trailing_zeros zero (bit_xor a b) in
+    (λ j. bool_cmp (has (set_in (suc n) (same j)) x) (has (set_in (suc n) b) x))
+    ∙ tied_itself bool_cmp_total (has (set_in (suc n) b) x)
+    ∙ sym ((λ j. slice_cmp bool_cmp (set_in (suc n) (same j)) (set_in (suc n) b)) ∙ tied_itself set_cmp_total (set_in (suc n) b))
+cmp_bits (suc k) (suc n) a b p q =
     let small : differ (a % 2) (b % 2) < 2 = differ_small (a % 2) (b % 2) (omega arith) (omega arith) in
     let low : bit_xor a b % 2 ≡ differ (a % 2) (b % 2) = omega (arith, xor_step a b) in
     let half : bit_xor a b / 2 ≡ bit_xor (a / 2) (b / 2) = omega (arith, xor_step a b) in
-    ap₂ (λ (d t : ℕ). has (set_in (suc n) b) (under d t)) low (ap (count_trailing_zeros k) half)
-    ∙ order_step (a % 2) (b % 2) (count_trailing_zeros k (bit_xor (a / 2) (b / 2))) (set_in n (a / 2)) (set_in n (b / 2)) (omega arith) (omega arith)
-    (precedes_bits k n (a / 2) (b / 2) (omega (arith, pow-suc 2 k)) (omega (arith, pow-suc 2 k)))
+    ap₂ (λ (d t : ℕ). bool_cmp (has (set_in (suc n) a) (under d t)) (has (set_in (suc n) b) (under d t))) low (ap (count_trailing_zeros k) half)
+    ∙ cmp_step (a % 2) (b % 2) (count_trailing_zeros k (bit_xor (a / 2) (b / 2))) (set_in n (a / 2)) (set_in n (b / 2)) (omega arith) (omega arith)
+    (cmp_bits k n (a / 2) (b / 2) (omega (arith, pow-suc 2 k)) (omega (arith, pow-suc 2 k)))
 
 missing_cons : (b : Bool) (s : Set) (k : ℕ) → k + missing (b ∷ s) ≡ k + (1 - cond b 1 0) + missing s
 unfolding missing

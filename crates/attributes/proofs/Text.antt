@@ -1,7 +1,11 @@
 -- The text of an attribute set, written attribute by attribute. Assumes nothing.
-use Rattle.std.proofs.Common.{◌≡◌, ℕ, zero, suc, ◌+◌, ◌-◌, ◌/◌, ◌%◌, ◌^◌, ◌<◌, ◌≤◌, Bool, true, false, cond, eqb, List, [], ◌∷◌, ◌++◌, codes, decimal, sym, refl, ap, ◌∙◌, append_assoc, append-nil, lt_of_lt_of_le, pow-suc, add-one, arith, pow_mono}
-use lib.Bits.{bit_and, and_mask}
-use Rattle.std.proofs.lemmas.Bool.{eq-eqb, ne_eqb}
+use Rattle.std.proofs.Common.{◌≡◌, ℕ, zero, suc, ◌+◌, ◌/◌, ◌%◌, ◌^◌, ◌<◌, ◌≤◌, Bool, true, false, cond, eqb, List, [], ◌∷◌, ◌++◌, map, length, get_or, drop, codes, decimal, sym, refl, ap, zero-add, ◌∙◌, append_assoc, append-nil, lt_of_lt_of_le, pow-suc, add-one, arith, pow_mono}
+use Rattle.std.proofs.lemmas.Bool.{ne_eqb}
+use Rattle.std.proofs.Math.Seq.{drop-cons}
+use Rattle.std.proofs.lemmas.List.{drop_all}
+use Rattle.attributes.specs.Sets.{Set, has}
+use Rattle.std.proofs.lemmas.List.FromFn.{get_or-map-range_with_len}
+use Rattle.std.specs.List.{range_with_len}
 use Rattle.std.proofs.Output.{has_written_append, has_written_of_eq}
 use Rattle.std.specs.Fmt.{IsPlainFormatter, HasWritten}
 use Rattle.std.specs.declared.fmt.Formatter.{Formatter}
@@ -9,29 +13,9 @@ use Rattle.attributes.specs.Numbers.{set_in, number_of}
 use Rattle.attributes.specs.Text.{listed, written}
 use Rattle.attributes.proofs.Numbers.{number_of_set_in}
 
--- the set that is left at attribute i, by its first attribute and the rest
-next : (i m : ℕ) (b : Bool) → i < 16 → eqb (m % 2) 1 ≡ b → set_in (16 - i) m ≡ b ∷ set_in (16 - (i + 1)) (m / 2)
-unfolding set_in
-next i m b h e =
-    let at : 16 - i ≡ suc (16 - (i + 1)) = omega arith in
-    ap (λ (k : ℕ). set_in k m) at ∙ ap (λ (x : Bool). x ∷ set_in (16 - (i + 1)) (m / 2)) e
-
-pub listed_in : (first : Bool) (i m : ℕ) → i < 16 → bit_and m 1 ≡ 1 → listed first i (set_in (16 - i) m) ≡ (cond first [] (codes " ") ++ decimal i) ++ listed false (i + 1) (set_in (16 - (i + 1)) (m / 2))
-unfolding listed
-listed_in first i m h e =
-    ap (listed first i) (next i m true h (eq-eqb (m % 2) 1 (sym (and_mask m 1) ∙ e)))
-    ∙ ap (λ (k : ℕ). cond first [] (codes " ") ++ (decimal i ++ listed false k (set_in (16 - (i + 1)) (m / 2)))) (sym (add-one i))
-    ∙ sym (append_assoc (cond first [] (codes " ")) (decimal i) (listed false (i + 1) (set_in (16 - (i + 1)) (m / 2))))
-
-pub listed_out : (first : Bool) (i m : ℕ) → i < 16 → (bit_and m 1 ≡ 1 → ⊥) → listed first i (set_in (16 - i) m) ≡ listed first (i + 1) (set_in (16 - (i + 1)) (m / 2))
-unfolding listed
-listed_out first i m h e =
-    ap (listed first i) (next i m false h (ne_eqb (m % 2) 1 (λ p. e (and_mask m 1 ∙ p))))
-    ∙ ap (λ (k : ℕ). listed first k (set_in (16 - (i + 1)) (m / 2))) (sym (add-one i))
-
-pub listed_end : (first : Bool) (i m : ℕ) → 16 - i ≡ 0 → listed first i (set_in (16 - i) m) ≡ []
-unfolding listed set_in
-listed_end first i m e = ap (λ (k : ℕ). listed first i (set_in k m)) e
+-- what is left to write at attribute i, by whether it is in the set
+left : (first b : Bool) (i : ℕ) (s : Set) → i < length s → has s i ≡ b → listed first i (drop i s) ≡ listed first i (b ∷ drop (suc i) s)
+left first b i s h e = ap (listed first i) (drop-cons s i false h ∙ ap (λ (x : Bool). x ∷ drop (suc i) s) e)
 
 pub written_none : written (set_in 16 0) ≡ codes "-"
 unfolding written set_in number_of
@@ -41,27 +25,30 @@ pub written_some : (m : ℕ) → m < 2 ^ 16 → (m ≡ 0 → ⊥) → written (s
 unfolding written
 written_some m h ne = ap (λ (b : Bool). cond b (codes "-") (listed true 0 (set_in 16 m))) (ne_eqb (number_of (set_in 16 m)) 0 (λ e. ne (sym (number_of_set_in 16 m h) ∙ e)))
 
--- what was written of bits before attribute i, and what is left to write
-abbrev pub SoFar : {W : Type 0} → (W → List ℕ → W → Type 0) → ℕ → Formatter W → Formatter W → Bool → ℕ → ℕ → Type 0
-SoFar took bits f₀ f first i rest =
-    (done : List ℕ) × (IsPlainFormatter f₀ → HasWritten took f₀ done f) × (done ++ listed first i (set_in (16 - i) rest) ≡ listed true 0 (set_in 16 bits))
+-- what was written of a set's attributes before attribute i, and what is left to write
+abbrev pub SoFar : {W : Type 0} → (W → List ℕ → W → Type 0) → Set → Formatter W → Formatter W → Bool → ℕ → Type 0
+SoFar took s f₀ f first i = (done : List ℕ) × (IsPlainFormatter f₀ → HasWritten took f₀ done f) × (done ++ listed first i (drop i s) ≡ listed true 0 s)
 
-module _ {W : Type 0} (took : W → List ℕ → W → Type 0) (bits : ℕ) (f₀ f : Formatter W) (first : Bool) (i rest : ℕ) (so_far : SoFar took bits f₀ f first i rest) where
-  pub so_far_in : (g : Formatter W) → i < 16 → bit_and rest 1 ≡ 1 → (IsPlainFormatter f → HasWritten took f (cond first [] (codes " ") ++ decimal i) g) → SoFar took bits f₀ g false (i + 1) (rest / 2)
+module _ {W : Type 0} (took : W → List ℕ → W → Type 0) (s : Set) (f₀ f : Formatter W) (first : Bool) (i : ℕ) (so_far : SoFar took s f₀ f first i) where
+  pub so_far_in : (g : Formatter W) → i < length s → has s i ≡ true → (IsPlainFormatter f → HasWritten took f (cond first [] (codes " ") ++ decimal i) g) → SoFar took s f₀ g false (i + 1)
+  unfolding listed
   so_far_in g h e put =
-      let text : List ℕ = cond first [] (codes " ") ++ decimal i in (
+      let text : List ℕ = cond first [] (codes " ") ++ decimal i in
+      let rest : List ℕ = listed false (suc i) (drop (suc i) s) in (
         so_far.0 ++ text,
         λ plain. let before = so_far.1 plain in has_written_append took f₀ so_far.0 f text g before (put before.plain),
-        append_assoc so_far.0 text (listed false (i + 1) (set_in (16 - (i + 1)) (rest / 2))) ∙ ap (λ (l : List ℕ). so_far.0 ++ l) (sym (listed_in first i rest h e)) ∙ so_far.2,
+        rw add-one (append_assoc so_far.0 text rest ∙ ap (λ (l : List ℕ). so_far.0 ++ l) (append_assoc (cond first [] (codes " ")) (decimal i) rest ∙ sym (left first true i s h e)) ∙ so_far.2),
       )
 
-  pub so_far_out : i < 16 → (bit_and rest 1 ≡ 1 → ⊥) → SoFar took bits f₀ f first (i + 1) (rest / 2)
-  so_far_out h e = (so_far.0, so_far.1, ap (λ (l : List ℕ). so_far.0 ++ l) (sym (listed_out first i rest h e)) ∙ so_far.2)
+  pub so_far_out : i < length s → has s i ≡ false → SoFar took s f₀ f first (i + 1)
+  unfolding listed
+  so_far_out h e = (so_far.0, so_far.1, rw add-one (ap (λ (l : List ℕ). so_far.0 ++ l) (sym (left first false i s h e)) ∙ so_far.2))
 
-  pub so_far_all : 16 - i ≡ 0 → IsPlainFormatter f₀ → HasWritten took f₀ (listed true 0 (set_in 16 bits)) f
+  pub so_far_all : length s ≤ i → IsPlainFormatter f₀ → HasWritten took f₀ (listed true 0 s) f
+  unfolding listed
   so_far_all h plain =
-      has_written_of_eq took f₀ so_far.0 (listed true 0 (set_in 16 bits)) f
-      (sym (append-nil so_far.0) ∙ ap (λ (l : List ℕ). so_far.0 ++ l) (sym (listed_end first i rest h)) ∙ so_far.2)
+      has_written_of_eq took f₀ so_far.0 (listed true 0 s) f
+      (sym (append-nil so_far.0) ∙ ap (λ (l : Set). so_far.0 ++ listed first i l) (sym (drop_all i s h)) ∙ so_far.2)
       (so_far.1 plain)
 
 -- attributes past those that a number has add nothing to the text
@@ -88,3 +75,7 @@ unfolding written
 written_wide n w m h small =
     let same : number_of (set_in w m) ≡ number_of (set_in n m) = number_of_set_in w m (lt_of_lt_of_le small (pow_mono h)) ∙ sym (number_of_set_in n m small) in
     λ j. cond (eqb (same j) 0) (codes "-") (listed_wide n w m 0 true h small j)
+
+-- a table of the first sixteen numbers
+pub decimal_at : (i : ℕ) → i < 16 → get_or (map decimal (range_with_len 0 16)) i [] ≡ decimal i
+decimal_at i h = get_or-map-range_with_len decimal 0 16 i i [] h (zero-add i)

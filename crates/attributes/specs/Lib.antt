@@ -1,5 +1,6 @@
 pub mod Sets
 pub mod Lectic
+pub mod LecticOrder
 pub mod Numbers
 pub mod Text
 pub mod Laws

@@ -1,5 +1,5 @@
 // How many attributes there are.
-ghost use Rattle.std.specs.Prelude.{◌≡◌, ◌^◌, ◌<◌, ◌≤◌, MatchOption};
+ghost use Rattle.std.specs.Prelude.{◌≡◌, ◌^◌, ◌<◌, ◌≤◌, MatchResult};
 
 // There are at most this many attributes.
 pub const MOST_ATTRIBUTES: u64 = 12;
@@ -11,17 +11,24 @@ pub struct AttributeCount {
     ghost few: { value ≤ 12 },
 }
 
-impl AttributeCount {
-    // None if there are too many.
-    pub fn new(value: u64) -> Option<AttributeCount>
-        ensures { MatchOption result (12 < value) (λ n. n.value ≡ value) }
-    {
-        if value > MOST_ATTRIBUTES {
-            return None;
-        }
-        Some(AttributeCount { value: value as u8 })
-    }
+// A number of attributes that no context has.
+#[derive(Clone, Copy, PartialEq, Eq, Debug)]
+pub struct TooManyAttributes;
 
+impl TryFrom<u64> for AttributeCount {
+    type Error = TooManyAttributes;
+
+    ghost try_from_gives = { λ value r. MatchResult r (λ n. n.value ≡ value) (λ _. 12 < value) };
+
+    fn try_from(value: u64) -> Result<AttributeCount, TooManyAttributes> {
+        if value > MOST_ATTRIBUTES {
+            return Err(TooManyAttributes);
+        }
+        Ok(AttributeCount { value: value as u8 })
+    }
+}
+
+impl AttributeCount {
     pub fn get(self) -> u8
         ensures value { result ≡ self.value }
         ensures few { result ≤ 12 }

@@ -5,6 +5,6 @@ mod count;
 mod laws;
 mod set;
 
-pub use count::{AttributeCount, MOST_ATTRIBUTES};
-pub use laws::{lectic_agrees, order_laws};
+pub use count::{AttributeCount, MOST_ATTRIBUTES, TooManyAttributes};
+pub use laws::{lectic_agrees, less_precedes, order_laws};
 pub use set::AttributeSet;

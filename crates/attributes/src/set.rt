@@ -1,15 +1,19 @@
 // An attribute set.
-ghost use Rattle.std.specs.Prelude.{◌≡◌, ℕ, ◌^◌, ◌<◌, ◌≤◌, true, not, [], ◌++◌, set, if◌then◌else◌, Some, codes, decimal, MatchOption, slice_set};
+ghost use Rattle.std.specs.Prelude.{◌≡◌, ℕ, ◌^◌, ◌<◌, ◌≤◌, true, not, [], ◌++◌, set, if◌then◌else◌, Some, codes, decimal, MatchOption, slice_set, refl};
+ghost use Rattle.std.specs.Cmp.{on_po, on_total};
+ghost use Rattle.std.specs.Ordering.{as_partial_cmp, on};
 ghost use Rattle.std.specs.Fmt.{WritesOnOk};
 ghost use Rattle.attributes.specs.Numbers.{number_of, set_in};
-ghost use Rattle.attributes.specs.Lectic.{precedes};
+ghost use Rattle.attributes.specs.LecticOrder.{lectic_cmp, lectic_cmp_partial, lectic_cmp_ties, lectic_cmp_total};
 ghost use Rattle.attributes.specs.Sets.{complement, everything, has, join, meet, missing, subset};
 ghost use Rattle.attributes.specs.Text.{listed, written};
 
 use crate::count::AttributeCount;
+use std::cmp::Ordering;
 use std::fmt;
 
-// A set of the attributes 0 to 15: bit c says whether attribute c is in it.
+// A set of the attributes 0 to 15: bit c says whether attribute c is in it. It does not carry how many attributes there are, though many contracts
+// bound its bits by that number: each function of two sets would have to ask of its callers that both carry the same.
 #[derive(Clone, Copy, PartialEq, Eq, Debug)]
 pub struct AttributeSet {
     bits: u16,
@@ -32,7 +36,7 @@ impl AttributeSet {
         }
     }
 
-    // The set of n attributes that a number of a row stands for; None if it has an attribute that is not there.
+    // The set of n attributes that a number of a row stands for; None if it has an attribute that is not there. It takes n, so it is no TryFrom.
     pub fn from_number(n: AttributeCount, number: u64) -> Option<AttributeSet>
         ensures { MatchOption result (2 ^ n.value ≤ number) (λ s. (s.bits ≡ number) × (number < 2 ^ n.value)) }
     {
@@ -44,7 +48,7 @@ impl AttributeSet {
         })
     }
 
-    // What a number of a row says of the lowest n attributes.
+    // What a number of a row says of the lowest n attributes. It drops the others, so it is no From, and neither is `of_number`.
     pub fn lowest(n: AttributeCount, number: u64) -> AttributeSet
         ensures value { set_in n.value result.bits ≡ set_in n.value number }
         ensures bound { result.bits < 2 ^ n.value }
@@ -68,14 +72,7 @@ impl AttributeSet {
         ensures value { set_in n.value result.bits ≡ set_in n.value self.bits }
         ensures bound { result.bits < 2 ^ n.value }
     {
-        AttributeSet::lowest(n, self.number())
-    }
-
-    // The number that stands for the set in a row.
-    pub fn number(self) -> u64
-        ensures { result ≡ self.bits }
-    {
-        u64::from(self.bits)
+        AttributeSet::lowest(n, u64::from(self))
     }
 
     pub fn is_subset_of(self, other: AttributeSet) -> bool
@@ -154,19 +151,47 @@ impl AttributeSet {
         }
     }
 
-    // Whether the set comes before another in lectic order: the other has the lowest attribute in which they differ.
-    pub fn precedes(self, other: AttributeSet) -> bool
-        ensures { (n : ℕ) → self.bits < 2 ^ n → other.bits < 2 ^ n → result ≡ precedes (set_in n self.bits) (set_in n other.bits) }
-    {
-        other.contains((self.bits ^ other.bits).trailing_zeros() as u8)
-    }
-
     // How many of n attributes are not in the set.
     pub fn missing(self, n: AttributeCount) -> u32
         ensures { result ≡ missing (set_in n.value self.bits) }
     {
         let there = self.bits & AttributeSet::everything(n).bits;
         u32::from(n.get()) - there.count_ones()
+    }
+}
+
+// The lectic order: of the lowest attribute in which two sets differ, the set that lacks it comes first.
+impl Ord for AttributeSet {
+    ghost cmp = { on (λ s. s.bits) lectic_cmp };
+
+    ghost total = { on_total (λ s. s.bits) lectic_cmp_total };
+
+    ghost matches_partial_cmp = { λ _ _. refl };
+
+    ghost matches_eq = { λ s t. lectic_cmp_ties s.bits t.bits };
+
+    fn cmp(&self, other: &AttributeSet) -> Ordering {
+        let lowest = (self.bits ^ other.bits).trailing_zeros() as u8;
+        self.contains(lowest).cmp(&other.contains(lowest))
+    }
+}
+
+impl PartialOrd for AttributeSet {
+    ghost partial_cmp = { on (λ s. s.bits) (as_partial_cmp lectic_cmp) };
+
+    ghost laws = { on_po (λ s. s.bits) lectic_cmp_partial };
+
+    fn partial_cmp(&self, other: &AttributeSet) -> Option<Ordering> {
+        Some(self.cmp(other))
+    }
+}
+
+// The number that stands for a set in a row.
+impl From<AttributeSet> for u64 {
+    ghost from_gives = { λ s number. number ≡ s.bits };
+
+    fn from(s: AttributeSet) -> u64 {
+        u64::from(s.bits)
     }
 }
 
@@ -178,58 +203,41 @@ impl fmt::Display for AttributeSet {
         if self.bits == 0 {
             return f.write_str("-");
         }
-        write_list(self.bits, f)
+        write_list(*self, f)
     }
 }
 
-fn write_list<W: fmt::Write>(bits: u16, f: &mut fmt::Formatter<W>) -> fmt::Result
-    ensures { WritesOnOk W.write_str_gives f.old result (listed true 0 (set_in 16 bits)) f.new }
+fn write_list<W: fmt::Write>(s: AttributeSet, f: &mut fmt::Formatter<W>) -> fmt::Result
+    ensures { WritesOnOk W.write_str_gives f.old result (listed true 0 (set_in 16 s.bits)) f.new }
 {
-    let mut rest = bits;
     let mut first = true;
     for attribute in 0..16u8 {
-        if rest & 1 == 1 {
+        if s.contains(attribute) {
             write_next(first, attribute, f)?;
             first = false;
         }
-        rest >>= 1;
     }
     Ok(())
 }
 
 fn write_next<W: fmt::Write>(first: bool, attribute: u8, f: &mut fmt::Formatter<W>) -> fmt::Result
+    requires { attribute < 16 }
     ensures { WritesOnOk W.write_str_gives f.old result ((if first then [] else codes " ") ++ decimal attribute) f.new }
 {
     if !first {
         f.write_str(" ")?;
     }
-    match digits(attribute) {
-        Some(text) => f.write_str(text),
-        None => write!(f, "{attribute}"),
-    }
+    f.write_str(digits(attribute))
 }
 
-// The digits of an attribute's number: written out, since formatting a number costs more than all else that the programs do.
-fn digits(attribute: u8) -> Option<&'static str>
-    ensures { MatchOption result (16 ≤ attribute) (λ text. text.now ≡ decimal attribute) }
+// The digits of each attribute's number: written out, since formatting a number costs more than all else that the programs do.
+const DIGITS: [&str; 16] = [
+    "0", "1", "2", "3", "4", "5", "6", "7", "8", "9", "10", "11", "12", "13", "14", "15",
+];
+
+fn digits(attribute: u8) -> &'static str
+    requires { attribute < 16 }
+    ensures { result.now ≡ decimal attribute }
 {
-    match attribute {
-        0 => Some("0"),
-        1 => Some("1"),
-        2 => Some("2"),
-        3 => Some("3"),
-        4 => Some("4"),
-        5 => Some("5"),
-        6 => Some("6"),
-        7 => Some("7"),
-        8 => Some("8"),
-        9 => Some("9"),
-        10 => Some("10"),
-        11 => Some("11"),
-        12 => Some("12"),
-        13 => Some("13"),
-        14 => Some("14"),
-        15 => Some("15"),
-        _ => None,
-    }
+    DIGITS[usize::from(attribute)]
 }

@@ -1,5 +1,4 @@
 pub mod Asked
 pub mod Equivalents
 mod Filled
-mod Sound
 mod Turns

@@ -1,40 +1,37 @@
 -- The loop that writes a base: what it keeps, how it begins, what a turn adds, and how it ends. Assumes nothing.
-use Rattle.std.proofs.Common.{◌≡◌, ℕ, ◌+◌, ◌*◌, ◌^◌, ◌<◌, ◌≤◌, List, [], ◌∷◌, ◌++◌, length, get_or, take, drop, set, Some, None, Option, sym, refl, ap, ◌∙◌, subst, append_assoc, append-nil, arith}
+use Rattle.std.proofs.Common.{◌≡◌, ℕ, ◌+◌, ◌*◌, ◌^◌, ◌<◌, ◌≤◌, List, [], ◌∷◌, ◌++◌, length, get_or, take, drop, set, Some, None, Option, sym, refl, ap, ◌∙◌, subst, append_assoc, append-nil, arith, pow_mono}
 use Rattle.std.specs.Option.{option_map}
 use Rattle.std.specs.List.{AllByRecursion}
 use Rattle.std.proofs.lemmas.List.{drop_more, length_push, set_at, take_at}
+use Rattle.std.proofs.lemmas.List.Concat.{flat_map-append}
+use Rattle.std.proofs.lemmas.Option.{none-some, same_Some}
 use Rattle.attributes.specs.Numbers.{set_in, number_of}
 use Rattle.attributes.specs.Sets.{Set}
 use Rattle.attributes.proofs.Numbers.{number_of_set_in, set_in_number_of}
 use Rattle.contexts.specs.Contexts.{Context, OfWidth, Implication, common}
+use Rattle.contexts.specs.Values.{implication_at}
+use Rattle.contexts.specs.declared.implication.Implication.{Implication as Pair}
 use Rattle.implications.specs.Implications.{Over}
 use Rattle.implications.specs.Values.{implications_in}
-use Rattle.premises.specs.Open.{first_open, first_open_from}
-use Rattle.premises.proofs.First.{no_some}
+use Rattle.premises.specs.Open.{about, first_open, first_open_from}
 use Rattle.premises.proofs.From.{from_empty, search_may_begin}
 use Rattle.dialogues.specs.Dialogue.{question}
 use Rattle.dialogues.proofs.Asked.{Asks, asks, none_asked}
 use Rattle.dialogues.proofs.Run.{Run, run_bound, run_push}
-use Rattle.bases.specs.Bases.{knowing, asked_from, CommonTo}
-use Rattle.bases.specs.Rows.{numbers_of, WrittenPart}
+use Rattle.bases.specs.Bases.{knowing, CommonTo}
+use Rattle.bases.specs.Rows.{two_numbers, numbers_of, WrittenPart}
 use Rattle.bases.proofs.Asked.{run_over, run_turn}
 
 pub length_numbers : (is : List Implication) → length (numbers_of is) ≡ 2 * length is
-unfolding numbers_of
 length_numbers [] = refl
 length_numbers (i ∷ is) = omega (arith, length_numbers is)
-
-numbers_push : (is : List Implication) (q : Implication) → numbers_of (is ++ q ∷ []) ≡ numbers_of is ++ (number_of q.premise ∷ (number_of q.conclusion ∷ []))
-unfolding numbers_of
-numbers_push [] q = refl
-numbers_push (i ∷ is) q = ap (λ (row : List ℕ). number_of i.premise ∷ (number_of i.conclusion ∷ row)) (numbers_push is q)
 
 same_set : (n : ℕ) (s : Set) → length s ≡ n → set_in n (number_of s) ≡ s
 same_set n s e = ap (λ (k : ℕ). set_in k (number_of s)) (sym e) ∙ set_in_number_of s
 
 -- a list is read back from its numbers
 pub numbers_back : (n : ℕ) (is : List Implication) → AllByRecursion (Over n) is → implications_in n (numbers_of is) ≡ is
-unfolding numbers_of implications_in
+unfolding implications_in
 numbers_back n [] over = refl
 numbers_back n (i ∷ is) over = λ j. record { premise = same_set n i.premise over.0.0 j; conclusion = same_set n i.conclusion over.0.1 j } ∷ numbers_back n is over.1 j
 
@@ -54,12 +51,9 @@ two_more xs before k p c e room =
     ∙ append_assoc xs (p ∷ []) (c ∷ rest)
     ∙ sym (append_assoc xs (p ∷ (c ∷ [])) rest)
 
-premise_found : (forced : Set → Set) (o : Option Set) (q : Implication) → option_map (λ (s : Set). record { premise = s; conclusion = forced s }) o ≡ Some q → o ≡ Some q.premise
-premise_found forced None q e = absurd (no_some e)
-premise_found forced (Some s) q e =
-    let about : Implication = record { premise = s; conclusion = forced s } in
-    let same : about ≡ q = cc in
-    ap (λ (i : Implication). Some i.premise) same
+premise_found : (forced : Set → Set) (o : Option Set) (q : Implication) → option_map (about forced) o ≡ Some q → o ≡ Some q.premise
+premise_found forced None q e = absurd (none-some q e)
+premise_found forced (Some s) q e = ap (λ (i : Implication). Some i.premise) (same_Some (about forced s) q e)
 
 -- once what is asked is confirmed, the next search may begin at its premise
 search_on : (n : ℕ) (u : Context) → OfWidth n u → (is : List Implication) (q : Implication) → question n (knowing u is) ≡ Some q
@@ -77,87 +71,70 @@ pub record Writing (n : ℕ) (u : Context) (before now : List ℕ) (count from :
   pub part : now ≡ numbers_of so_far ++ drop (2 * count) before
   pub begins : first_open_from n (common n u) so_far (set_in n from) ≡ first_open n (common n u) so_far
 
-module _ (n : ℕ) (u : Context) (wide : OfWidth n u) (before : List ℕ) where
-  pub writing_none : Writing n u before before 0 0
-  unfolding numbers_of
-  writing_none = record { so_far = []; counted = refl; run = tt; part = refl; begins = from_empty n (common n u) [] }
+-- what is asked next, if no set before `from` is open
+abbrev asked_from : ℕ → (Set → Set) → List Implication → Set → Option Implication
+asked_from n forced is from = option_map (about forced) (first_open_from n forced is from)
 
-  module _ (now : List ℕ) (count from : ℕ) (w : Writing n u before now count from) where
-    filled : length (numbers_of w.so_far) ≡ 2 * count
-    filled = omega (arith, length_numbers w.so_far, w.counted)
+pub writing_none : (n : ℕ) (u : Context) (before : List ℕ) → Writing n u before before 0 0
+writing_none n u before = record { so_far = []; counted = refl; run = tt; part = refl; begins = from_empty n (common n u) [] }
 
-    -- what is written is read back, and so what is found is what is asked
-    read_back : implications_in n (take (2 * count) now) ≡ w.so_far
-    read_back =
-        ap (λ (row : List ℕ). implications_in n (take (2 * count) row)) w.part
-        ∙ ap (implications_in n) (take_at (numbers_of w.so_far) (drop (2 * count) before) (2 * count) filled)
-        ∙ numbers_back n w.so_far (run_over n u wide w.so_far w.run)
+module _ {n : ℕ} {u : Context} {forced : Set → Set} (objects : CommonTo n forced u) {before now : List ℕ} {count from : ℕ} (w : Writing n u before now count from) where
+  filled : length (numbers_of w.so_far) ≡ 2 * count
+  filled = omega (arith, length_numbers w.so_far, w.counted)
 
-    asked_next : asked_from n (common n u) (implications_in n (take (2 * count) now)) (set_in n from) ≡ question n (knowing u w.so_far)
-    unfolding question
-    asked_next =
-        ap (λ (is : List Implication). asked_from n (common n u) is (set_in n from)) read_back
-        ∙ ap (option_map (λ (s : Set). record { premise = s; conclusion = common n u s })) w.begins
+  -- what is written is read back, and so what is found is what is asked
+  read_back : implications_in n (take (2 * count) now) ≡ w.so_far
+  read_back =
+      ap (λ (row : List ℕ). implications_in n (take (2 * count) row)) w.part
+      ∙ ap (implications_in n) (take_at (numbers_of w.so_far) (drop (2 * count) before) (2 * count) filled)
+      ∙ numbers_back n w.so_far (run_over n u objects.0 w.so_far w.run)
 
-    pub writing_end : asked_from n (common n u) (implications_in n (take (2 * count) now)) (set_in n from) ≡ None → WrittenPart n u count before now
-    writing_end e =
+  asked_next : asked_from n forced (implications_in n (take (2 * count) now)) (set_in n from) ≡ question n (knowing u w.so_far)
+  unfolding question
+  asked_next =
+      (λ j. asked_from n (objects.1 j) (read_back j) (set_in n from))
+      ∙ ap (option_map (about (common n u))) w.begins
+
+  pub writing_end : None ≡ asked_from n forced (implications_in n (take (2 * count) now)) (set_in n from) → WrittenPart n u count before now
+  writing_end e =
+      record {
+        base = w.so_far;
+        is_base = run_turn n u [] w.so_far w.run (none_asked n w.so_far u (sym (e ∙ asked_next)));
+        counted = w.counted;
+        part = w.part ∙ ap (λ (k : ℕ). numbers_of w.so_far ++ drop (2 * k) before) (sym w.counted);
+      }
+
+  module _ (asked : Pair) (e : Some (implication_at n asked) ≡ asked_from n forced (implications_in n (take (2 * count) now)) (set_in n from)) where
+    q : Implication
+    q = implication_at n asked
+
+    found : Asks n w.so_far u q
+    unfolding q
+    found = asks n w.so_far u q (sym (e ∙ asked_next))
+
+    more : Run n u [] (w.so_far ++ q ∷ [])
+    more = run_push n u [] w.so_far q w.run found
+
+    -- there are no more than 2 ^ n
+    pub writing_few : n ≤ 12 → count < 4096
+    writing_few few =
+        let most : 2 ^ n ≤ 4096 = pow_mono {j = 12} few in
+        omega (arith, run_bound n u [] (w.so_far ++ q ∷ []) more, length_push w.so_far q, w.counted)
+
+    pub writing_more : asked.premise.bits < 2 ^ n → asked.conclusion.bits < 2 ^ n → 2 * count + 2 ≤ length before
+        → Writing n u before (set (set now (2 * count) asked.premise.bits) (2 * count + 1) asked.conclusion.bits) (count + 1) asked.premise.bits
+    unfolding q
+    writing_more small_p small_c room =
+        let p : ℕ = asked.premise.bits in
+        let c : ℕ = asked.conclusion.bits in
         record {
-          base = w.so_far;
-          is_base = run_turn n u [] w.so_far w.run (none_asked n w.so_far u (sym asked_next ∙ e));
-          counted = w.counted;
-          part = w.part ∙ ap (λ (k : ℕ). numbers_of w.so_far ++ drop (2 * k) before) (sym w.counted);
+          so_far = w.so_far ++ q ∷ [];
+          counted = omega (arith, length_push w.so_far q, w.counted);
+          run = more;
+          part =
+              ap (λ (row : List ℕ). set (set row (2 * count) p) (2 * count + 1) c) w.part
+              ∙ two_more (numbers_of w.so_far) before count p c filled room
+              ∙ ap (λ (row : List ℕ). row ++ drop (2 * (count + 1)) before)
+              (sym (flat_map-append two_numbers w.so_far (q ∷ []) ∙ (λ j. numbers_of w.so_far ++ (number_of_set_in n p small_p j ∷ (number_of_set_in n c small_c j ∷ [])))));
+          begins = sym (search_on n u objects.0 w.so_far q (sym (e ∙ asked_next)));
         }
-
-    module _ (p c : ℕ) (e : asked_from n (common n u) (implications_in n (take (2 * count) now)) (set_in n from) ≡ Some (record { premise = set_in n p; conclusion = set_in n c })) where
-      q : Implication
-      q = record { premise = set_in n p; conclusion = set_in n c }
-
-      found : Asks n w.so_far u q
-      unfolding q
-      found = asks n w.so_far u q (sym asked_next ∙ e)
-
-      more : Run n u [] (w.so_far ++ q ∷ [])
-      more = run_push n u [] w.so_far q w.run found
-
-      -- there are no more than 2 ^ n
-      pub writing_few : count < 2 ^ n
-      writing_few = omega (arith, run_bound n u [] (w.so_far ++ q ∷ []) more, length_push w.so_far q, w.counted)
-
-      pub writing_more : p < 2 ^ n → c < 2 ^ n → 2 * count + 2 ≤ length before → Writing n u before (set (set now (2 * count) p) (2 * count + 1) c) (count + 1) p
-      unfolding q
-      writing_more small_p small_c room =
-          record {
-            so_far = w.so_far ++ q ∷ [];
-            counted = omega (arith, length_push w.so_far q, w.counted);
-            run = more;
-            part =
-                ap (λ (row : List ℕ). set (set row (2 * count) p) (2 * count + 1) c) w.part
-                ∙ two_more (numbers_of w.so_far) before count p c filled room
-                ∙ ap (λ (row : List ℕ). row ++ drop (2 * (count + 1)) before)
-                (sym (numbers_push w.so_far q ∙ (λ j. numbers_of w.so_far ++ (number_of_set_in n p small_p j ∷ (number_of_set_in n c small_c j ∷ [])))));
-            begins = sym (search_on n u wide w.so_far q (sym asked_next ∙ e));
-          }
-
--- the same for what is forced, whichever context it is common to
-module _ (n : ℕ) (forced : Set → Set) (before : List ℕ) where
-  abbrev pub Kept : List ℕ → ℕ → ℕ → Type 0
-  Kept now count from = (u : Context) → CommonTo n forced u → Writing n u before now count from
-
-  pub kept_none : Kept before 0 0
-  kept_none u h = writing_none n u h.0 before
-
-  module _ (now : List ℕ) (count from : ℕ) (kept : Kept now count from) where
-    -- what the code found, as the context asks it
-    asked_of : (u : Context) → forced ≡ common n u → (o : Option Implication) → o ≡ asked_from n forced (implications_in n (take (2 * count) now)) (set_in n from)
-        → asked_from n (common n u) (implications_in n (take (2 * count) now)) (set_in n from) ≡ o
-    asked_of u e o h = subst (λ (f : Set → Set). asked_from n f (implications_in n (take (2 * count) now)) (set_in n from) ≡ o) e (sym h)
-
-    pub kept_end : None ≡ asked_from n forced (implications_in n (take (2 * count) now)) (set_in n from) → (u : Context) → CommonTo n forced u → WrittenPart n u count before now
-    kept_end h u t = writing_end n u t.0 before now count from (kept u t) (asked_of u t.1 None h)
-
-    module _ (p c : ℕ) (h : Some (record { premise = set_in n p; conclusion = set_in n c }) ≡ asked_from n forced (implications_in n (take (2 * count) now)) (set_in n from)) where
-      pub kept_few : (u : Context) × CommonTo n forced u → count < 2 ^ n
-      kept_few t = writing_few n t.0 t.1.0 before now count from (kept t.0 t.1) p c (asked_of t.0 t.1.1 _ h)
-
-      pub kept_more : p < 2 ^ n → c < 2 ^ n → 2 * count + 2 ≤ length before → Kept (set (set now (2 * count) p) (2 * count + 1) c) (count + 1) p
-      kept_more small_p small_c room u t = writing_more n u t.0 before now count from (kept u t) p c (asked_of u t.1 _ h) small_p small_c room

@@ -1,9 +1,7 @@
 -- The base of a context, and lists that say the same. Definitions only.
-use Rattle.std.specs.Prelude.{◌≡◌, ℕ, List, [], ◌∷◌, ◌++◌, Some, None, Option}
-use Rattle.std.specs.Option.{option_map}
+use Rattle.std.specs.Prelude.{◌≡◌, ℕ, List, [], ◌∷◌, ◌++◌, Some, None}
 use Rattle.attributes.specs.Sets.{Set}
 use Rattle.contexts.specs.Contexts.{Context, OfWidth, Implication, common}
-use Rattle.premises.specs.Open.{first_open_from}
 use Rattle.dialogues.specs.Dialogue.{Knowledge, question}
 
 -- what is known when these implications are confirmed and all objects of the context are named
@@ -18,10 +16,6 @@ AskedInTurn n u is (r ∷ rs) = (question n (knowing u is) ≡ Some r) × AskedI
 -- the base of a context: what an exploration confirms that knows all its objects
 abbrev pub Base : ℕ → Context → List Implication → Type 0
 Base n u rs = AskedInTurn n u [] rs
-
--- what is asked next, if no set is open that precedes a given one; what a set forces is a parameter
-abbrev pub asked_from : ℕ → (Set → Set) → List Implication → Set → Option Implication
-asked_from n forced is from = option_map (λ (s : Set). record { premise = s; conclusion = forced s }) (first_open_from n forced is from)
 
 -- what a set forces is what the objects of the context with its attributes have in common
 abbrev pub CommonTo : ℕ → (Set → Set) → Context → Type 0

@@ -1,7 +1,7 @@
--- The number and the place by which each refusal is told, and replies as text. Definitions only.
+-- The number and the place by which each refusal is told, and refusals as text. Definitions only.
 use Rattle.std.specs.Prelude.{ℕ, List, ◌++◌, codes, decimal}
-use Rattle.bases.specs.declared.reply.Refusal.{Refusal}
-use Rattle.bases.specs.declared.reply.Refusal.TheVariants.{OutputTooShort, TooManyAttributes, RowAtFault}
+use Rattle.bases.specs.declared.refusal.Refusal.{Refusal}
+use Rattle.bases.specs.declared.refusal.Refusal.TheVariants.{OutputTooShort, TooManyAttributes, RowAtFault}
 
 abbrev pub refusal_number : Refusal → ℕ
 refusal_number (OutputTooShort length) = 1

@@ -1,15 +1,14 @@
 -- Contexts and lists as lent rows of numbers: how many attributes there are, the count of the rows, and then a number for each object, or
 -- two for each implication. Definitions only.
-use Rattle.std.specs.Prelude.{◌≡◌, ℕ, suc, ◌*◌, ◌/◌, ◌^◌, min, cond, List, [], ◌∷◌, ◌++◌, length, take, drop, Some, None, Option, nat_lt, slice_index}
+use Rattle.std.specs.Prelude.{◌≡◌, ℕ, ◌*◌, ◌/◌, ◌^◌, min, cond, List, [], ◌∷◌, ◌++◌, length, take, drop, Some, None, Option, Ok, Err, Result, nat_lt, slice_index}
+use Rattle.std.specs.List.{flat_map, prefix_len}
 use Rattle.attributes.specs.Numbers.{number_of}
 use Rattle.contexts.specs.Contexts.{Context, Implication}
 use Rattle.contexts.specs.Values.{objects_in}
 use Rattle.implications.specs.Values.{implications_in}
 use Rattle.bases.specs.Bases.{Base}
-use Rattle.bases.specs.declared.reply.Refusal.{Refusal}
-use Rattle.bases.specs.declared.reply.Refusal.TheVariants.{OutputTooShort, TooManyAttributes, RowAtFault}
-use Rattle.bases.specs.declared.reply.Reply.{Reply}
-use Rattle.bases.specs.declared.reply.Reply.TheVariants.{Written, Refused}
+use Rattle.bases.specs.declared.refusal.Refusal.{Refusal}
+use Rattle.bases.specs.declared.refusal.Refusal.TheVariants.{OutputTooShort, TooManyAttributes, RowAtFault}
 
 abbrev pub attributes_in : List ℕ → ℕ
 attributes_in row = slice_index row 0
@@ -18,9 +17,8 @@ abbrev pub count_in : List ℕ → ℕ
 count_in row = slice_index row 1
 
 -- how many numbers at the front are below the limit
-unfoldable pub sound_front : ℕ → List ℕ → ℕ
-sound_front limit [] = 0
-sound_front limit (m ∷ ms) = cond (nat_lt m limit) (suc (sound_front limit ms)) 0
+abbrev pub sound_front : ℕ → List ℕ → ℕ
+sound_front limit row = prefix_len (λ m. nat_lt m limit) row
 
 -- how many rows of so many numbers each stand whole at the front and have only attributes that are there; 4,096 at most
 abbrev pub sound_rows : ℕ → List ℕ → ℕ
@@ -35,9 +33,10 @@ fault width input room =
     (cond (nat_lt (length input) 2) (Some (RowAtFault 0))
     (cond (nat_lt (sound_rows width input) (count_in input)) (Some (RowAtFault (sound_rows width input))) None)))
 
-abbrev pub reply_of : Option Refusal → Reply
-reply_of None = Written
-reply_of (Some refusal) = Refused refusal
+-- the refusal, or that the base is written
+abbrev pub result_of : Option Refusal → Result Unit Refusal
+result_of None = Ok tt
+result_of (Some refusal) = Err refusal
 
 -- the context and the list that a row has
 abbrev pub context_in : List ℕ → Context
@@ -49,10 +48,12 @@ implication_part row = take (2 * count_in row) (drop 2 row)
 abbrev pub list_in : List ℕ → List Implication
 list_in row = implications_in (attributes_in row) (implication_part row)
 
--- the numbers of a list, two for each implication
-unfoldable pub numbers_of : List Implication → List ℕ
-numbers_of [] = []
-numbers_of (i ∷ is) = number_of i.premise ∷ (number_of i.conclusion ∷ numbers_of is)
+-- the numbers of an implication, and of a list
+abbrev pub two_numbers : Implication → List ℕ
+two_numbers i = number_of i.premise ∷ (number_of i.conclusion ∷ [])
+
+abbrev pub numbers_of : List Implication → List ℕ
+numbers_of is = flat_map two_numbers is
 
 -- the list's numbers, and what stands behind them as it was
 abbrev pub numbers_then : List Implication → List ℕ → List ℕ

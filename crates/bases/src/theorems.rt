@@ -2,8 +2,6 @@
 ghost use Rattle.bases.specs.Laws.{OneBase};
 
 // A context has one base, so the definition leaves nothing open.
-pub fn one_base() -> u8
+pub fn one_base()
     ensures { OneBase }
-{
-    0
-}
+{}

@@ -4,9 +4,9 @@
 #[cfg(test)]
 mod tests {
     use attributes::AttributeCount;
-    use bases::{BASE_LENGTH, Reply, base_of_context, base_of_list, implications_of};
+    use bases::{BASE_LENGTH, Refusal, base_of_context, base_of_list, implications_of};
     use comparisons::compare;
-    use implications::{Listed, nth};
+    use implications::Implications;
     use reading::{behind_list, context_from_bytes, list_from_bytes};
     use std::process::Abort;
     use std::test::Fail;
@@ -28,27 +28,24 @@ mod tests {
     // The reply and how many implications were written, as text; the output held 7 everywhere.
     fn told(
         rt: &(impl Abort + AllocGlobal),
-        reply: Reply,
+        reply: Result<(), Refusal>,
         base: &[u64],
         text: &str,
         note: &str,
     ) -> Result<(), Fail> {
         assert!(rt; base.len() > 2);
-        match reply {
-            Reply::Written => {
-                let written = format!(in rt.alloc(); "written {} of {}", base[1], base[0])?;
-                assert_eq!(rt; written.as_str(), text, "{note}");
-                Ok(())
+        let told = match reply {
+            Ok(()) => format!(in rt.alloc(); "written {} of {}", base[1], base[0])?,
+            Err(refusal) => {
+                assert!(rt;
+                    base.starts_with(&[7, 7, 7]),
+                    "a refusal leaves the output: {note}"
+                );
+                format!(in rt.alloc(); "{refusal}")?
             }
-            Reply::Refused(refusal) => {
-                assert_eq!(rt; base[0], 7, "a refusal leaves the output: {note}");
-                assert_eq!(rt; base[1], 7);
-                assert_eq!(rt; base[2], 7);
-                let refused = format!(in rt.alloc(); "{refusal}")?;
-                assert_eq!(rt; refused.as_str(), text, "{note}");
-                Ok(())
-            }
-        }
+        };
+        assert_eq!(rt; told.as_str(), text, "{note}");
+        Ok(())
     }
 
     fn context_told(
@@ -82,12 +79,11 @@ mod tests {
         place: usize,
         text: &str,
     ) -> Result<(), Fail> {
-        let Some(n) = AttributeCount::new(n) else {
-            return Err(Fail::new("too many attributes"));
+        let list = Implications {
+            n: AttributeCount::try_from(n)?,
+            numbers: implications_of(row),
         };
-        let Some(implication) = nth(n, implications_of(row), place) else {
-            return Err(Fail::new("the list is shorter"));
-        };
+        let implication = list.nth(place).ok_or("the list is shorter")?;
         let told = format!(in rt.alloc(); "{implication}")?;
         assert_eq!(rt; told.as_str(), text);
         Ok(())
@@ -113,11 +109,11 @@ mod tests {
         let yard = [5, 6, 0b00111, 0b01001, 0b01111, 0b11001, 0b00000, 0b00100];
         let mut base = vec![in rt.alloc(); 7u64; BASE_LENGTH]?;
         let _ = base_of_context(&yard, base.as_mut_slice());
-        let Some(n) = AttributeCount::new(5) else {
-            return Err(Fail::new("five is too many"));
+        let list = Implications {
+            n: AttributeCount::try_from(5)?,
+            numbers: implications_of(base.as_slice()),
         };
-        let implications = implications_of(base.as_slice());
-        let text = format!(in rt.alloc(); "{}", Listed { n, implications })?;
+        let text = format!(in rt.alloc(); "{list}")?;
         assert_eq!(rt; text.as_str(), "4: 0 3 4\n3: 0 3\n1: 0 1 2\n0 2: 0 1 2\n");
         Ok(())
     }
@@ -284,9 +280,7 @@ mod tests {
         other: &[u64],
         text: &str,
     ) -> Result<(), Fail> {
-        let Some(n) = AttributeCount::new(n) else {
-            return Err(Fail::new("too many attributes"));
-        };
+        let n = AttributeCount::try_from(n)?;
         let told = format!(in rt.alloc(); "{}", compare(n, one, other))?;
         assert_eq!(rt; told.as_str(), text);
         Ok(())

@@ -4,13 +4,14 @@
 
 use anyhow::anyhow;
 use attributes::AttributeCount;
-use bases::{BASE_LENGTH, Refusal, Reply, base_of_list, implications_of};
+use bases::{BASE_LENGTH, Refusal, base_of_list, implications_of};
 use comparisons::compare;
 use reading::{behind_list, list_from_bytes};
 use std::io::Read;
 use std::process::ExitCode;
 
-// An error is told on the standard error in one line; a main that returned it would tell it a second time.
+// An error is told on the standard error in one line; a main that returned it would tell it a second time. Each program begins and ends so: a
+// crate for all three, with its contracts, would be longer than these lines.
 fn main(rt: HostRuntime) -> ExitCode {
     match run(&rt) {
         Ok(()) => ExitCode::SUCCESS,
@@ -28,7 +29,7 @@ fn run(rt: &HostRuntime) -> anyhow::Result<()> {
     let [n, lists @ ..] = input.as_slice() else {
         return Err(anyhow!("the input is empty: its first byte is the number of attributes"));
     };
-    let Some(count) = AttributeCount::new(u64::from(*n)) else {
+    let Ok(count) = AttributeCount::try_from(u64::from(*n)) else {
         println!(rt; "{}", Refusal::TooManyAttributes)?;
         return Ok(());
     };
@@ -52,8 +53,8 @@ fn run(rt: &HostRuntime) -> anyhow::Result<()> {
 fn needed(rt: &HostRuntime, name: &str, list: &[u64]) -> anyhow::Result<Option<usize>> {
     let mut base = vec![in rt.alloc(); 0u64; BASE_LENGTH]?;
     match base_of_list(list, base.as_mut_slice()) {
-        Reply::Written => Ok(Some(implications_of(base.as_slice()).len() / 2)),
-        Reply::Refused(refusal) => {
+        Ok(()) => Ok(Some(implications_of(base.as_slice()).len() / 2)),
+        Err(refusal) => {
             println!(rt; "{name}: {refusal}")?;
             Ok(None)
         }

@@ -1,16 +1,20 @@
 -- An implication that follows from a list, or the first set that tells it apart from the list. Assumes nothing.
-use Rattle.std.proofs.Common.{◌≡◌, ℕ, ◌<◌, ◌≤◌, true, false, not, List, length, get_or, sym, ◌∙◌, subst, inl, inr, arith}
+use Rattle.std.proofs.Common.{◌≡◌, ℕ, ◌+◌, ◌<◌, true, false, not, List, [], ◌∷◌, length, drop, get_or, Some, None, sym, ◌∙◌, ap, subst, below_more, inl, inr, arith}
 use Rattle.std.specs.List.{AllByRecursion}
 use Rattle.std.proofs.ByRecursion.{All-from_get_or}
+use Rattle.std.proofs.lemmas.List.{drop_more, length-drop}
 use Rattle.std.proofs.lemmas.Bool.{and_parts, and_from, both_ways, cases_Bool, not_from_false, not-true}
 use Rattle.attributes.specs.Lectic.{precedes}
 use Rattle.attributes.specs.Sets.{Set, subset}
 use Rattle.attributes.proofs.Lectic.{order_laws, subset_first}
 use Rattle.attributes.proofs.Sets.{subset_refl, subset_trans}
 use Rattle.contexts.specs.Contexts.{Implication, respects}
+use Rattle.contexts.specs.Values.{implication_at}
+use Rattle.contexts.specs.declared.implication.Implication.{Implication as Pair}
 use Rattle.contexts.proofs.Holding.{breaks, respects_apply, respects_from}
 use Rattle.implications.specs.Implications.{respects_all, Follows}
-use Rattle.implications.specs.Places.{no_implication}
+use Rattle.implications.specs.Places.{no_implication, HasFirst, NextImplication}
+use Rattle.implications.specs.Values.{implications_in}
 use Rattle.implications.proofs.Respects.{one_set_decides}
 use Rattle.premises.specs.Laws.{IsFirst}
 use Rattle.comparisons.specs.Compared.{tells_apart}
@@ -62,6 +66,37 @@ module _ (n : ℕ) (is : List Implication) (i : Implication) where
             earlier = λ t w p. elim (cases_Bool (tells_apart is i t)) [ inl h ↦ absurd (no_earlier t w p h) | inr h ↦ h ];
           }
 
--- past the end of the list all of it follows
-pub all_follow : (n : ℕ) (one other : List Implication) (place : ℕ) → length one ≤ place → ((j : ℕ) → j < place → Follows n other (get_or one j no_implication)) → AllByRecursion (Follows n other) one
-all_follow n one other place end each = All-from_get_or (Follows n other) one no_implication (λ j h. each j (omega arith))
+-- a turn through a list: the implications of `rest` stand from this place on, and those before it follow
+pub record Turn (n : ℕ) (one other : List Implication) (place m : ℕ) (rest : List ℕ) : Type 0 where
+  pub width : m ≡ n
+  pub left : implications_in n rest ≡ drop place one
+  pub before : (j : ℕ) → j < place → Follows n other (get_or one j no_implication)
+
+-- what is left begins with what stands at the place
+begins : (is : List Implication) (place : ℕ) (i : Implication) (rest : List Implication) → i ∷ rest ≡ drop place is
+    → (place < length is) × (i ≡ get_or is place no_implication) × (rest ≡ drop (place + 1) is)
+begins is place i rest e =
+    let inside : place < length is = omega (arith, ap length e, length-drop place is) in
+    let same : i ∷ rest ≡ get_or is place no_implication ∷ drop (place + 1) is = e ∙ drop_more is place no_implication inside in
+    (inside, cc, cc)
+
+module _ {n : ℕ} {one other : List Implication} {place m : ℕ} {rest : List ℕ} (turn : Turn n one other place m rest) {m' : ℕ} {rest' : List ℕ} where
+  pub turn_end : NextImplication m rest None m' rest' → AllByRecursion (Follows n other) one
+  turn_end next =
+      let none : implications_in n rest ≡ [] = subst (λ (k : ℕ). implications_in k rest ≡ []) turn.width next.found in
+      All-from_get_or (Follows n other) one no_implication (λ j h. turn.before j (omega (arith, ap length (sym none ∙ turn.left), length-drop place one)))
+
+  module _ {i : Pair} (next : NextImplication m rest (Some i) m' rest') where
+    pub turn_first : HasFirst n rest i rest'
+    turn_first = subst (λ (k : ℕ). HasFirst k rest i rest') turn.width next.found
+
+    pub turn_at : (place < length one) × (implication_at n i ≡ get_or one place no_implication) × (implications_in n rest' ≡ drop (place + 1) one)
+    turn_at = begins one place (implication_at n i) (implications_in n rest') (sym turn_first.first ∙ turn.left)
+
+    pub turn_more : Follows n other (implication_at n i) → Turn n one other (place + 1) m' rest'
+    turn_more f =
+        record {
+          width = next.width ∙ turn.width;
+          left = turn_at.2;
+          before = below_more _ place turn.before (subst (Follows n other) turn_at.1 f);
+        }

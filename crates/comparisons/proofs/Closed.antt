@@ -1,5 +1,5 @@
 -- Two lists are reported the same exactly if the same sets are closed under both. Assumes nothing.
-use Rattle.std.proofs.Common.{◌≡◌, ℕ, true, false, not, List, length, Some, None, Decides, Option, sym, refl, ◌∙◌, MatchOption}
+use Rattle.std.proofs.Common.{◌≡◌, ℕ, true, false, not, List, length, Decides, sym, refl, ◌∙◌}
 use Rattle.std.specs.List.{ContainsAt, AllByRecursion}
 use Rattle.std.proofs.ByRecursion.{all-has, has_get_or}
 use Rattle.std.proofs.lemmas.Bool.{and_parts, both_ways, not-true}
@@ -9,10 +9,8 @@ use Rattle.contexts.specs.Contexts.{Implication, respects}
 use Rattle.implications.specs.Implications.{respects_all, Follows}
 use Rattle.implications.specs.Places.{no_implication}
 use Rattle.implications.proofs.Respects.{has_respects, respects_has, one_set_decides}
-use Rattle.comparisons.specs.Compared.{FirstDifference, Differs, Compared, SameClosed, comparison_of, is_same}
-use Rattle.comparisons.specs.declared.Comparison.{Comparison}
+use Rattle.comparisons.specs.Compared.{FirstDifference, Differs, SameClosed}
 use Rattle.comparisons.specs.declared.Difference.{Difference}
-use Rattle.comparisons.specs.declared.Comparison.TheVariants.{Same, OneSaysMore, OtherSaysMore, EachSaysMore}
 
 -- a set that respects a list respects what follows from it
 respects_what_follows : (n : ℕ) (is js : List Implication) → AllByRecursion (Follows n is) js → (s : Set) → length s ≡ n → respects_all s is ≡ true → respects_all s js ≡ true
@@ -25,18 +23,15 @@ different n one other place i w d same =
     let member : ContainsAt one i = rw d.there (has_get_or one place no_implication d.inside) in
     both_ways (respects w i) (not-true (respects w i) parts.1) (respects_has w one (same w d.first.wide ∙ parts.0) i member)
 
-pub compared_by : (n : ℕ) (one other : List Implication) (o p : Option Difference) → MatchOption o (AllByRecursion (Follows n other) one) (Differs n one other) → MatchOption p (AllByRecursion (Follows n one) other) (Differs n other one)
-    → Compared n one other (comparison_of o p)
-compared_by n one other None None h k = record { there = k; back = h }
-compared_by n one other None (Some e) h k = (h, k)
-compared_by n one other (Some d) None h k = (h, k)
-compared_by n one other (Some d) (Some e) h k = (h, k)
+module _ (n : ℕ) (one other : List Implication) where
+  pub same_closed : AllByRecursion (Follows n other) one → AllByRecursion (Follows n one) other → Decides true (SameClosed n one other)
+  same_closed there back = (
+    λ _ s w. same_from_decides (respects_all s one) (respects_all s other) (respects_what_follows n one other back s w, respects_what_follows n other one there s w) (λ h. h, λ h. h),
+    λ _. refl,
+  )
 
-pub compared_same : (n : ℕ) (one other : List Implication) (r : Comparison) → Compared n one other r → Decides (is_same r) (SameClosed n one other)
-compared_same n one other Same e = (
-  λ _ s w. same_from_decides (respects_all s one) (respects_all s other) (respects_what_follows n one other e.there s w, respects_what_follows n other one e.back s w) (λ h. h, λ h. h),
-  λ _. refl,
-)
-compared_same n one other (OneSaysMore d) h = (λ e. absurd (both_ways false refl e), λ same. absurd (different n one other _ _ _ h.0.difference same))
-compared_same n one other (OtherSaysMore d) h = (λ e. absurd (both_ways false refl e), λ same. absurd (different n other one _ _ _ h.1.difference (λ s w. sym (same s w))))
-compared_same n one other (EachSaysMore d e) h = (λ e. absurd (both_ways false refl e), λ same. absurd (different n one other _ _ _ h.0.difference same))
+  pub differs_there : (d : Difference) → Differs n one other d → Decides false (SameClosed n one other)
+  differs_there d h = (λ e. absurd (both_ways false refl e), λ same. absurd (different n one other _ _ _ h.difference same))
+
+  pub differs_back : (d : Difference) → Differs n other one d → Decides false (SameClosed n one other)
+  differs_back d h = (λ e. absurd (both_ways false refl e), λ same. absurd (different n other one _ _ _ h.difference (λ s w. sym (same s w))))

@@ -1,5 +1,5 @@
 -- How two lists differ. Definitions only.
-use Rattle.std.specs.Prelude.{◌≡◌, ℕ, ◌^◌, ◌<◌, Bool, true, false, not, ◌&&◌, List, length, Some, None, Option, slice_index_or}
+use Rattle.std.specs.Prelude.{◌≡◌, ℕ, ◌^◌, ◌<◌, Bool, true, false, not, ◌&&◌, List, length, slice_index_or}
 use Rattle.std.specs.List.{AllByRecursion}
 use Rattle.attributes.specs.Numbers.{set_in}
 use Rattle.attributes.specs.Sets.{Set}
@@ -36,13 +36,6 @@ pub record Differs (n : ℕ) (one other : List Implication) (d : Difference) : T
   pub premise : d.implication.premise.bits < 2 ^ n
   pub conclusion : d.implication.conclusion.bits < 2 ^ n
   pub witness : d.witness.bits < 2 ^ n
-
--- what is told by the first difference in either list
-abbrev pub comparison_of : Option Difference → Option Difference → Comparison
-comparison_of None None = Same
-comparison_of (Some d) None = OneSaysMore d
-comparison_of None (Some e) = OtherSaysMore e
-comparison_of (Some d) (Some e) = EachSaysMore d e
 
 -- what each result of a comparison says
 abbrev pub Compared : ℕ → List Implication → List Implication → Comparison → Type 0

@@ -6,15 +6,15 @@ ghost use Rattle.std.specs.List.{AllByRecursion};
 ghost use Rattle.implications.specs.Implications.{Follows};
 ghost use Rattle.implications.specs.Values.{implications_in};
 ghost use Rattle.comparisons.specs.Told.{comparison_text, difference_text};
-ghost use Rattle.comparisons.specs.Compared.{Compared, Differs, SameClosed, comparison_of, is_same};
+ghost use Rattle.comparisons.specs.Compared.{Compared, Differs, SameClosed, is_same};
 
 use attributes::{AttributeCount, AttributeSet};
 use contexts::Implication;
-use implications::{nth, repair};
+use implications::Implications;
 use std::fmt;
 
 // An implication of one list that does not follow from the other, and the lectically first set that respects the other and breaks it.
-#[derive(Clone, Copy)]
+#[derive(Clone, Copy, PartialEq, Eq, Debug)]
 pub struct Difference {
     pub place: usize,
     pub implication: Implication,
@@ -32,8 +32,9 @@ impl fmt::Display for Difference {
     }
 }
 
-// How two lists compare, with the first difference in each list's order.
-#[derive(Clone, Copy)]
+// How two lists compare, with the first difference in each list's order. A case has a name: of two Options a caller would have to know which
+// list each of them is about.
+#[derive(Clone, Copy, PartialEq, Eq, Debug)]
 pub enum Comparison {
     // Each list follows from the other.
     Same,
@@ -62,21 +63,15 @@ impl fmt::Display for Comparison {
 }
 
 // Compares two lists of implications, two numbers each.
+#[tactic(auto, using(crate::proofs::Closed::same_closed, crate::proofs::Closed::differs_there, crate::proofs::Closed::differs_back))]
 pub fn compare(n: AttributeCount, one: &[u64], other: &[u64]) -> Comparison
     ensures told { Compared n.value (implications_in n.value one.now) (implications_in n.value other.now) result }
     ensures same { Decides (is_same result) (SameClosed n.value (implications_in n.value one.now) (implications_in n.value other.now)) }
 {
-    told_by(
+    match (
         first_difference(n, one, other),
         first_difference(n, other, one),
-    )
-}
-
-// What is told by the first difference in either list.
-fn told_by(first: Option<Difference>, second: Option<Difference>) -> Comparison
-    ensures { result ≡ comparison_of first second }
-{
-    match (first, second) {
+    ) {
         (None, None) => Comparison::Same,
         (Some(first), None) => Comparison::OneSaysMore(first),
         (None, Some(second)) => Comparison::OtherSaysMore(second),
@@ -89,12 +84,13 @@ fn told_by(first: Option<Difference>, second: Option<Difference>) -> Comparison
 pub fn first_difference(n: AttributeCount, one: &[u64], other: &[u64]) -> Option<Difference>
     ensures { MatchOption result (AllByRecursion (Follows n.value (implications_in n.value other.now)) (implications_in n.value one.now)) (Differs n.value (implications_in n.value one.now) (implications_in n.value other.now)) }
 {
+    let one = Implications { n, numbers: one };
+    let other = Implications { n, numbers: other };
     let mut found = None;
-    let mut place = 0;
-    'implications: while let Some(implication) = nth(n, one, place) {
+    'implications: for (place, implication) in one.iter().enumerate() {
         let mut reached = implication.premise;
         while !implication.conclusion.is_subset_of(reached) {
-            let Some(grown) = repair(n, other, reached) else {
+            let Some(grown) = other.repair(reached) else {
                 found = Some(Difference {
                     place,
                     implication,
@@ -104,7 +100,6 @@ pub fn first_difference(n: AttributeCount, one: &[u64], other: &[u64]) -> Option
             };
             reached = grown;
         }
-        place += 1;
     }
     found
 }

@@ -1,9 +1,12 @@
 -- Sets that respect an implication, and contexts for which it holds. Assumes nothing.
-use Rattle.std.proofs.Common.{◌≡◌, Bool, true, false, not, ◌||◌, Decides, refl}
+use Rattle.std.proofs.Common.{◌≡◌, ℕ, Bool, true, false, not, ◌||◌, length, Decides, refl, sym, ap, ◌∙◌}
 use Rattle.std.specs.List.{ContainsAt, AllByRecursion}
 use Rattle.std.proofs.ByRecursion.{all-has, Decides-by_and}
-use Rattle.attributes.specs.Sets.{Set, subset}
+use Rattle.attributes.specs.Numbers.{set_in}
+use Rattle.attributes.specs.Sets.{Set, complement, subset}
 use Rattle.attributes.proofs.Members.{all_from_has}
+use Rattle.attributes.proofs.Numbers.{length_set_in}
+use Rattle.attributes.proofs.Sets.{subset_complement}
 use Rattle.contexts.specs.Contexts.{Context, Implication, respects, holds}
 
 pub respects_apply : (s : Set) (i : Implication) → respects s i ≡ true → subset i.premise s ≡ true → subset i.conclusion s ≡ true
@@ -41,3 +44,16 @@ holds_has t i h o m = all-has (λ (o : Set). respects o i ≡ true) t o ((holds_
 
 pub has_holds : (t : Context) (i : Implication) → ((o : Set) → ContainsAt t o → respects o i ≡ true) → holds t i ≡ true
 has_holds t i h = (holds_all t i).1 (all_from_has (λ (o : Set). respects o i ≡ true) t h)
+
+-- a set is inside another if it has nothing outside it
+pub inside_test : (n : ℕ) (s : Set) (o p : ℕ) (meets : Bool) → length s ≡ n → set_in n o ≡ complement s → meets ≡ not (subset (set_in n o) (complement (set_in n p)))
+    → subset (set_in n p) s ≡ not meets
+inside_test n s o p meets w outside e =
+    sym (subset_complement s (set_in n p) (w ∙ sym (length_set_in n p)))
+    ∙ ap (λ (t : Set). subset t (complement (set_in n p))) (sym outside)
+    ∙ sym (not_not (subset (set_in n o) (complement (set_in n p))))
+    ∙ ap not (sym e)
+  where
+    not_not : (b : Bool) → not (not b) ≡ b
+    not_not true = refl
+    not_not false = refl

@@ -1,7 +1,8 @@
 -- Walks over a row of objects. Assumes nothing.
 use Rattle.std.proofs.Common.{◌≡◌, ℕ, zero, suc, ◌+◌, ◌<◌, ◌≤◌, Bool, true, false, cond, not, List, [], ◌∷◌, length, get_or, drop, is_some, Some, None, Option, sym, refl, ap, ◌∙◌, subst, inl, inr, arith, MatchOption}
 use Rattle.std.proofs.ByRecursion.{has_get_or}
-use Rattle.std.proofs.lemmas.List.{at_drop_more, at_drop_all, get_or-map}
+use Rattle.std.specs.List.{AllWithin, HoldsAt}
+use Rattle.std.proofs.lemmas.List.{at_drop_more, at_drop_all, get_or-map, length-map}
 use Rattle.std.proofs.lemmas.Bool.{both_ways, cases_eq}
 use Rattle.attributes.specs.Numbers.{set_in}
 use Rattle.attributes.specs.Sets.{Set, subset, meet, everything}
@@ -77,8 +78,20 @@ module _ (n : ℕ) (row : List ℕ) (s : Set) where
       (ap (λ (c : Set). subset (common n (objects_in n row) s) c) e ∙ common_drop n row s i)
 
 -- an implication that the object at each place respects holds
-pub holds_places : (t : Context) (i : Implication) (k : ℕ) → length t ≤ k → ((j : ℕ) → j < k → respects (get_or t j []) i ≡ true) → holds t i ≡ true
+holds_places : (t : Context) (i : Implication) (k : ℕ) → length t ≤ k → ((j : ℕ) → j < k → respects (get_or t j []) i ≡ true) → holds t i ≡ true
 holds_places t i k h all = has_holds t i (λ o m. ap (λ (s : Set). respects s i) (sym (m.2 [])) ∙ all m.0 (omega (arith, m.1)))
+
+-- what a walk over the numbers of a row finds: no object that breaks an implication, or the first
+pub first_breaking : (n : ℕ) (row : List ℕ) (i : Implication) (found : Option ℕ)
+    → MatchOption found (AllWithin (λ (m : ℕ). respects (set_in n m) i ≡ true) row 0 (length row)) (λ k. (k < length row) × HoldsAt (λ (m : ℕ). respects (set_in n m) i ≡ false) row k × AllWithin (λ (m : ℕ). respects (set_in n m) i ≡ true) row 0 k)
+    → MatchOption found (holds (objects_in n row) i ≡ true) (FirstBreaking (objects_in n row) i)
+first_breaking n row i None all = holds_places (objects_in n row) i (length row) (omega (arith, length-map row (set_in n))) (λ j p. ap (λ (s : Set). respects s i) (object_at n row j p) ∙ all j 0 (omega arith) p)
+first_breaking n row i (Some k) found =
+    record {
+      inside = omega (arith, found.0, length-map row (set_in n));
+      breaks = ap (λ (s : Set). respects s i) (object_at n row k found.0) ∙ found.1 0;
+      before = λ j p. ap (λ (s : Set). respects s i) (object_at n row j (omega (arith, p, found.0))) ∙ found.2 j 0 (omega arith) p;
+    }
 
 -- and one that some object breaks does not
 breaking_place : (t : Context) (i : Implication) (k : ℕ) → FirstBreaking t i k → holds t i ≡ false
@@ -88,10 +101,6 @@ breaking_place t i k b =
     not_true_false : (b : Bool) → (b ≡ true → ⊥) → b ≡ false
     not_true_false true f = absurd (f refl)
     not_true_false false f = refl
-
--- the test of the object at place k
-pub test_at : (n : ℕ) (row : List ℕ) (k m : ℕ) (i : Implication) (r : Bool) → k < length row → set_in n m ≡ set_in n (get_or row k 0) → r ≡ respects (set_in n m) i → respects (get_or (objects_in n row) k []) i ≡ r
-test_at n row k m i r h e f = ap (λ (s : Set). respects s i) (object_at n row k h ∙ sym e) ∙ sym f
 
 -- an implication holds if no place was found
 pub holds_if_none : (t : Context) (i : Implication) (found : Option ℕ) (r : Bool) → MatchOption found (holds t i ≡ true) (FirstBreaking t i) → is_some found ≡ not r → r ≡ holds t i

@@ -1,6 +1,7 @@
 // Implications.
-ghost use Rattle.std.specs.Prelude.{◌≡◌, ℕ, ◌^◌, ◌<◌, ◌++◌, Some, codes};
+ghost use Rattle.std.specs.Prelude.{◌≡◌, ℕ, ◌^◌, ◌<◌, ◌++◌, not, length, Some, codes};
 ghost use Rattle.attributes.specs.Numbers.{set_in};
+ghost use Rattle.attributes.specs.Sets.{Set, complement};
 ghost use Rattle.attributes.specs.Text.{written};
 ghost use Rattle.contexts.specs.Contexts.{respects};
 ghost use Rattle.contexts.specs.Values.{implication_at};
@@ -9,7 +10,7 @@ use attributes::{AttributeCount, AttributeSet};
 use std::fmt;
 
 // What has all attributes of the premise has all attributes of the conclusion.
-#[derive(Clone, Copy)]
+#[derive(Clone, Copy, PartialEq, Eq, Debug)]
 pub struct Implication {
     pub premise: AttributeSet,
     pub conclusion: AttributeSet,
@@ -33,6 +34,14 @@ impl Implication {
         ensures { (n : ℕ) → self.premise.bits < 2 ^ n → self.conclusion.bits < 2 ^ n → result ≡ respects (set_in n s.bits) (implication_at n self) }
     {
         !self.premise.is_subset_of(s) || self.conclusion.is_subset_of(s)
+    }
+
+    // Whether a set has all of the premise and lacks something of the conclusion, told by what is outside the set: a walk over many implications
+    // looks there once for each side.
+    pub fn is_broken_outside(self, outside: AttributeSet) -> bool
+        ensures { (n : ℕ) (s : Set) → length s ≡ n → outside.bits < 2 ^ n → set_in n outside.bits ≡ complement s → result ≡ not (respects s (implication_at n self)) }
+    {
+        !outside.meets(self.premise) && outside.meets(self.conclusion)
     }
 }
 

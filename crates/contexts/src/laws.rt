@@ -4,15 +4,11 @@ ghost use Rattle.contexts.specs.Contexts.{Context, OfWidth};
 ghost use Rattle.contexts.specs.Laws.{CommonLaws, HoldsByCommon};
 
 // Common attributes are a closure.
-pub fn common_laws() -> u8
+pub fn common_laws()
     ensures { (n : ℕ) (t : Context) → OfWidth n t → CommonLaws n t }
-{
-    0
-}
+{}
 
 // An implication holds exactly if its conclusion is common to the objects with its premise.
-pub fn holds_by_common() -> u8
+pub fn holds_by_common()
     ensures { (n : ℕ) (t : Context) → HoldsByCommon n t }
-{
-    0
-}
+{}

@@ -12,7 +12,8 @@ use Rattle.contexts.proofs.CommonAttributes.{length_common, common_fewer, holds_
 use Rattle.implications.specs.Implications.{respects_all}
 use Rattle.premises.specs.Open.{is_open, first, first_open}
 use Rattle.premises.specs.Laws.{IsFirst}
-use Rattle.premises.proofs.First.{first_laws, no_some}
+use Rattle.std.proofs.lemmas.Option.{none-some}
+use Rattle.premises.proofs.First.{first_laws}
 use Rattle.premises.proofs.Open.{open_parts, open_from, shut, shut_from, stays_shut}
 use Rattle.dialogues.specs.Dialogue.{Knowledge, question}
 
@@ -51,7 +52,7 @@ module _ (n : ℕ) (is : List Implication) (t : Context) where
   asks q e = go (first (is_open (common n t) is) (sets n)) refl e
     where
       go : (o : Option Set) → first (is_open (common n t) is) (sets n) ≡ o → option_map about o ≡ Some q → Asks n is t q
-      go None f g = absurd (no_some g)
+      go None f g = absurd (none-some _ g)
       go (Some s) f g = let same : about s ≡ q = cc in rw same at (asks_first s ((first_laws n (is_open (common n t) is)).found s f))
 
   pub asked : (q : Implication) → Asks n is t q → question n (known is t) ≡ Some q
@@ -74,7 +75,7 @@ module _ (n : ℕ) (is : List Implication) (t : Context) where
     where
       go : (o : Option Set) → first (is_open (common n t) is) (sets n) ≡ o → option_map about o ≡ None → Shut n is t
       go None f g = λ s w. shut (common n t) is s ((first_laws n (is_open (common n t) is)).none f s w)
-      go (Some s) f g = absurd (no_some (sym g))
+      go (Some s) f g = absurd (none-some _ (sym g))
 
   pub shut_asks_none : Shut n is t → question n (known is t) ≡ None
   unfolding question first_open

@@ -11,7 +11,7 @@ use Rattle.contexts.specs.Contexts.{Context, OfWidth, Implication, common, respe
 use Rattle.contexts.proofs.Holding.{respects_apply, respects_from}
 use Rattle.implications.specs.Implications.{respects_all}
 use Rattle.implications.proofs.Respects.{respects_has, respects_fewer}
-use Rattle.premises.proofs.First.{no_some}
+use Rattle.std.proofs.lemmas.Option.{none-some}
 use Rattle.dialogues.specs.Promise.{Pairwise}
 use Rattle.dialogues.proofs.Pairs.{pairwise_weaker, at_most_sets}
 use Rattle.dialogues.proofs.Asked.{Asks, Shut, asked, shut_asks_none, same_question}
@@ -71,8 +71,8 @@ module _ (n : ℕ) (u : Context) where
   -- two runs that ask until nothing is left are one
   pub same_run : (is rs qs : List Implication) → Run n u is rs → Run n u is qs → Shut n (is ++ rs) u → Shut n (is ++ qs) u → rs ≡ qs
   same_run is [] [] p q h k = refl
-  same_run is [] (q ∷ qs) _ p h _ = absurd (no_some (sym (shut_asks_none n is u (rw append-nil at h)) ∙ asked n is u q p.0))
-  same_run is (r ∷ rs) [] p _ _ k = absurd (no_some (sym (shut_asks_none n is u (rw append-nil at k)) ∙ asked n is u r p.0))
+  same_run is [] (q ∷ qs) _ p h _ = absurd (none-some _ (sym (shut_asks_none n is u (rw append-nil at h)) ∙ asked n is u q p.0))
+  same_run is (r ∷ rs) [] p _ _ k = absurd (none-some _ (sym (shut_asks_none n is u (rw append-nil at k)) ∙ asked n is u r p.0))
   same_run is (r ∷ rs) (q ∷ qs) p m h k =
       let same : r ≡ q = cc (asked n is u r p.0, asked n is u q m.0) in
       let first_shut = subst (λ (l : List Implication). Shut n l u) (sym (append_assoc is (r ∷ []) rs)) h in

@@ -1,14 +1,14 @@
 -- A row that has no attribute that is not there keeps none. Assumes nothing.
-use Rattle.std.proofs.Common.{◌≡◌, ℕ, suc, ◌^◌, ◌<◌, ◌≤◌, Bool, true, false, cond, ltb, List, [], ◌∷◌, ◌++◌, Some, None, Ok, Option, sym, refl, ap, ◌∙◌, arith}
-use Rattle.std.proofs.lemmas.Bool.{ltb-false, lt-ltb}
+use Rattle.std.proofs.Common.{◌≡◌, ℕ, ◌+◌, ◌^◌, ◌<◌, ◌≤◌, Bool, true, false, cond, ltb, nat_le, List, [], ◌∷◌, ◌++◌, Some, None, Ok, Option, sym, refl, ap, ◌∙◌, arith}
+use Rattle.std.proofs.lemmas.Bool.{ltb-false, lt-leb}
 use Rattle.std.specs.List.{AllByRecursion}
-use Rattle.premises.proofs.First.{no_some}
+use Rattle.std.proofs.lemmas.Option.{none-some}
 use Rattle.exploration.specs.Answers.{RoomFor, written, StepBounded}
 use Rattle.exploration.specs.Row.{attribute_fault, attributes_in, checked_row, example_part, first_from, implication_part, unknown_at}
 use Rattle.replies.specs.declared.turn.Step.{Step}
 use Rattle.replies.specs.declared.turn.Step.TheVariants.{Confirm, Name}
 use Rattle.replies.specs.declared.reply.Refusal.TheVariants.{TooManyAttributes}
-use Rattle.exploration.specs.declared.row.Counts.{Counts}
+use Rattle.exploration.specs.declared.counts.Counts.{Counts}
 use Rattle.exploration.proofs.Rows.{few_enough}
 use Rattle.exploration.proofs.Taken.{stepped, implication_numbers, example_numbers}
 
@@ -22,22 +22,21 @@ clean_parts row = go (ltb 12 (attributes_in row)) refl (first_from (2 ^ attribut
   where
     go : (b : Bool) → ltb 12 (attributes_in row) ≡ b → (o : Option ℕ) → first_from (2 ^ attributes_in row) 3 (implication_part row) ≡ o
         → (p : Option ℕ) → first_from (2 ^ attributes_in row) 8195 (example_part row) ≡ p → cond b (Some TooManyAttributes) (unknown_at o p) ≡ None → Clean row
-    go true e o f p g h = absurd (no_some (sym h))
-    go false e (Some i) f p g h = absurd (no_some (sym h))
-    go false e None f (Some i) g h = absurd (no_some (sym h))
+    go true e o f p g h = absurd (none-some _ (sym h))
+    go false e (Some i) f p g h = absurd (none-some _ (sym h))
+    go false e None f (Some i) g h = absurd (none-some _ (sym h))
     go false e None f None g h = record { few = ltb-false 12 (attributes_in row) e; implications = f; examples = g }
 
 -- numbers below the limit behind such numbers
 none_more : (limit at : ℕ) (xs ys : List ℕ) → first_from limit at xs ≡ None → AllByRecursion (λ (m : ℕ). m < limit) ys → first_from limit at (xs ++ ys) ≡ None
-unfolding first_from
 none_more limit at [] [] e h = refl
-none_more limit at [] (y ∷ ys) e h = ap (λ (b : Bool). cond b (first_from limit (suc at) ys) (Some at)) (lt-ltb y limit h.0) ∙ none_more limit (suc at) [] ys refl h.1
-none_more limit at (x ∷ xs) ys e h = go (ltb x limit) (λ f. none_more limit (suc at) xs ys f h) e
+none_more limit at [] (y ∷ ys) e h = ap (λ (b : Bool). cond b (Some at) (first_from limit (at + 1) ys)) (lt-leb limit y h.0) ∙ none_more limit (at + 1) [] ys refl h.1
+none_more limit at (x ∷ xs) ys e h = go (nat_le limit x) (λ f. none_more limit (at + 1) xs ys f h) e
   where
-    go : (b : Bool) → (first_from limit (suc at) xs ≡ None → first_from limit (suc at) (xs ++ ys) ≡ None)
-        → cond b (first_from limit (suc at) xs) (Some at) ≡ None → cond b (first_from limit (suc at) (xs ++ ys)) (Some at) ≡ None
-    go true later f = later f
-    go false later f = absurd (no_some (sym f))
+    go : (b : Bool) → (first_from limit (at + 1) xs ≡ None → first_from limit (at + 1) (xs ++ ys) ≡ None)
+        → cond b (Some at) (first_from limit (at + 1) xs) ≡ None → cond b (Some at) (first_from limit (at + 1) (xs ++ ys)) ≡ None
+    go true later f = absurd (none-some at (sym f))
+    go false later f = later f
 
 bounded_implication : (n : ℕ) (step : Step) → StepBounded n step → AllByRecursion (λ (m : ℕ). m < 2 ^ n) (implication_numbers step)
 bounded_implication n (Confirm q) b = (b.0, (b.1, tt))

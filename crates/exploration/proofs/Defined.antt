@@ -10,7 +10,7 @@ use Rattle.contexts.specs.Contexts.{Implication, respects}
 use Rattle.contexts.specs.Values.{implication_at}
 use Rattle.contexts.proofs.Walks.{objects_width}
 use Rattle.implications.specs.Implications.{respects_all}
-use Rattle.premises.proofs.First.{no_some}
+use Rattle.std.proofs.lemmas.Option.{none-some}
 use Rattle.exploration.specs.Answers.{checked_answer, checked_object, counts_in, judged, judged_given, judged_row, named_if_room, row_after}
 use Rattle.dialogues.specs.Dialogue.{Knowledge, Answer, question, taken, with_answer, after}
 use Rattle.dialogues.specs.Promise.{Room}
@@ -20,7 +20,7 @@ use Rattle.exploration.specs.declared.answer.Answer.{Answer as Given}
 use Rattle.exploration.specs.declared.answer.Answer.TheVariants.{Always, Object}
 use Rattle.replies.specs.declared.turn.Step.{Step}
 use Rattle.replies.specs.declared.reply.Refusal.{Refusal}
-use Rattle.exploration.specs.declared.row.Counts.{Counts}
+use Rattle.exploration.specs.declared.counts.Counts.{Counts}
 use Rattle.dialogues.proofs.Asked.{asks, asks_concluded}
 use Rattle.exploration.proofs.Broken.{object_not_taken}
 use Rattle.exploration.proofs.Judged.{GivenBounded, answer_bounded}
@@ -31,7 +31,7 @@ ready_row : (row : List ℕ) → row_fault row ≡ None → Ready (attributes_in
 ready_row row = go (checked_row row) refl
   where
     go : (r : Result Counts Refusal) → checked_row row ≡ r → fault_or r (attribute_fault row) ≡ None → Ready (attributes_in row) row (known_in row)
-    go (Err refusal) e f = absurd (no_some (sym f))
+    go (Err refusal) e f = absurd (none-some _ (sym f))
     go (Ok counts) e f = record { tally = counts; counts = e; width = refl; clean = f; known = refl }
 
 -- a refusal leaves the row

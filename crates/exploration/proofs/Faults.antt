@@ -1,32 +1,28 @@
 -- The first number of a part of a row that has an attribute that is not there. Assumes nothing.
-use Rattle.std.proofs.Common.{◌≡◌, ℕ, suc, ◌+◌, ◌<◌, ◌≤◌, Bool, true, false, cond, ltb, List, length, get_or, drop, Some, None, sym, ap, ◌∙◌, arith}
-use Rattle.std.proofs.lemmas.List.{at_drop_more, at_drop_all}
-use Rattle.std.proofs.lemmas.Bool.{lt-ltb, le-ltb}
-use Rattle.exploration.specs.Row.{first_from}
+use Rattle.std.proofs.Common.{◌≡◌, ℕ, ◌+◌, ◌^◌, Bool, true, false, cond, nat_le, List, [], ◌∷◌, Some, Option, sym, refl, ap, ◌∙◌, add_assoc, arith}
+use Rattle.std.specs.List.{position, position_from}
+use Rattle.std.specs.Option.{option_map}
+use Rattle.std.proofs.lemmas.Iterator.Adapters.{position_from-zero}
+use Rattle.exploration.specs.Row.{attributes_in, first_from}
 
-module _ (limit at : ℕ) (xs : List ℕ) where
-  -- what is left from place i on decides
-  abbrev pub Left : ℕ → Type 0
-  Left i = first_from limit (at + i) (drop i xs) ≡ first_from limit at xs
+module _ (p : ℕ → Bool) (at : ℕ) where
+  later : (k : ℕ) (xs : List ℕ) → option_map (λ (i : ℕ). at + i) (position_from p k xs) ≡ position_from p (at + k) xs
+  later k [] = refl
+  later k (x ∷ xs) = go (p x) (later (k + 1) xs ∙ ap (λ (i : ℕ). position_from p i xs) (sym (add_assoc at k 1)))
+    where
+      go : (b : Bool) → option_map (λ (i : ℕ). at + i) (position_from p (k + 1) xs) ≡ position_from p (at + k + 1) xs
+          → option_map (λ (i : ℕ). at + i) (cond b (Some k) (position_from p (k + 1) xs)) ≡ cond b (Some (at + k)) (position_from p (at + k + 1) xs)
+      go true rest = refl
+      go false rest = rest
 
-  pub left_start : Left 0
-  left_start = let same : at + 0 ≡ at = omega arith in ap (λ (k : ℕ). first_from limit k xs) same
+-- the place in a part, counted from where the part begins
+placed : (limit at : ℕ) (xs : List ℕ) → option_map (λ (i : ℕ). at + i) (position (nat_le limit) xs) ≡ first_from limit at xs
+placed limit at xs =
+    let same : at + 0 ≡ at = omega arith in
+    ap (option_map (λ (i : ℕ). at + i)) (position_from-zero (nat_le limit) xs) ∙ later (nat_le limit) at 0 xs ∙ ap (λ (i : ℕ). first_from limit i xs) same
 
-  here : (i : ℕ) → i < length xs → (b : Bool) → ltb (get_or xs i 0) limit ≡ b
-      → first_from limit (at + i) (drop i xs) ≡ cond b (first_from limit (suc (at + i)) (drop (i + 1) xs)) (Some (at + i))
-  unfolding first_from
-  here i h b e =
-      at_drop_more (first_from limit (at + i)) xs i 0 h
-      ∙ ap (λ (x : Bool). cond x (first_from limit (suc (at + i)) (drop (i + 1) xs)) (Some (at + i))) e
-
-  pub left_more : (i : ℕ) → i < length xs → get_or xs i 0 < limit → Left i → Left (i + 1)
-  left_more i h l e =
-      let next : at + (i + 1) ≡ suc (at + i) = omega arith in
-      ap (λ (k : ℕ). first_from limit k (drop (i + 1) xs)) next ∙ sym (here i h true (lt-ltb (get_or xs i 0) limit l)) ∙ e
-
-  pub left_found : (i : ℕ) → i < length xs → limit ≤ get_or xs i 0 → Left i → Some (at + i) ≡ first_from limit at xs
-  left_found i h l e = sym (here i h false (le-ltb (get_or xs i 0) limit l)) ∙ e
-
-  pub left_none : (i : ℕ) → length xs ≤ i → Left i → None ≡ first_from limit at xs
-  unfolding first_from
-  left_none i h e = sym (at_drop_all (first_from limit (at + i)) xs i h) ∙ e
+-- a search of a part of a row, with the limit that the number of attributes sets
+pub searched : (row part whole : List ℕ) (n limit at : ℕ) (found r : Option ℕ) → n ≡ attributes_in row → limit ≡ 2 ^ n → part ≡ whole → r ≡ position (nat_le limit) part → r ≡ found
+    → option_map (λ (i : ℕ). at + i) found ≡ first_from (2 ^ attributes_in row) at whole
+searched row part whole n limit at found r width is_limit is_part is_first is_found =
+    ap (option_map (λ (i : ℕ). at + i)) (sym is_found ∙ is_first) ∙ placed limit at part ∙ (λ j. first_from ((is_limit ∙ ap (λ (k : ℕ). 2 ^ k) width) j) at (is_part j))

@@ -14,7 +14,7 @@ use Rattle.replies.specs.declared.turn.Step.{Step}
 use Rattle.replies.specs.declared.turn.Step.TheVariants.{Confirm, Name}
 use Rattle.replies.specs.declared.reply.Refusal.{Refusal}
 use Rattle.replies.specs.declared.reply.Refusal.TheVariants.{AnswerCutShort, AlwaysWithNumber, NotACounterexample, NoRoomForExample, NoRoomForImplication, UnknownAttributeNamed, UnknownKind}
-use Rattle.exploration.specs.declared.row.Counts.{Counts}
+use Rattle.exploration.specs.declared.counts.Counts.{Counts}
 use Rattle.exploration.proofs.Rows.{no_ok}
 
 -- an answer that was read says nothing beyond n attributes

@@ -59,7 +59,6 @@ module _ (n : ℕ) (row : List ℕ) (long : 12291 ≤ length row) (few : n ≤ 1
   zero_known = λ j. record { confirmed = implications_in (attributes_in zero_row) (no_implications j); examples = objects_in (attributes_in zero_row) (no_examples j) }
 
   zero_clean : attribute_fault zero_row ≡ None
-  unfolding first_from
   zero_clean =
       few_enough zero_row None None (omega (arith, zero_width)) (sym (ap (first_from (2 ^ attributes_in zero_row) 3) no_implications)) (sym (ap (first_from (2 ^ attributes_in zero_row) 8195) no_examples))
 

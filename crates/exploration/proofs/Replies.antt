@@ -1,5 +1,5 @@
--- Questions as the code has them, and as replies. Assumes nothing.
-use Rattle.std.proofs.Common.{◌≡◌, ℕ, List, Some, None, Ok, Option, sym, ap, ◌∙◌}
+-- Questions as the code has them. Assumes nothing.
+use Rattle.std.proofs.Common.{◌≡◌, ℕ, Some, None, Option, sym, ap, ◌∙◌}
 use Rattle.std.specs.Option.{option_map}
 use Rattle.attributes.specs.Numbers.{set_in}
 use Rattle.attributes.proofs.Numbers.{number_of_set_in}
@@ -8,8 +8,7 @@ use Rattle.contexts.specs.Values.{implication_at}
 use Rattle.contexts.specs.declared.implication.Implication.{Implication as Pair}
 use Rattle.premises.proofs.From.{from_empty}
 use Rattle.dialogues.specs.Dialogue.{Knowledge, about, question, question_from}
-use Rattle.exploration.specs.Row.{Bounded, attribute_fault, asked_in, asked_of, checked_row, fault_or, pair_of, reply_unless, reply_with}
-use Rattle.exploration.specs.declared.row.Counts.{Counts}
+use Rattle.exploration.specs.Row.{Bounded, pair_of}
 
 -- a question of the code is the question that it stands for
 pub paired : (n : ℕ) (asked : Option Pair) (q : Option Implication) → option_map (implication_at n) asked ≡ q → Bounded n asked → asked ≡ option_map pair_of q
@@ -22,7 +21,3 @@ paired n (Some p) q e b =
 pub from_start : (n : ℕ) (k : Knowledge) → question_from n k (set_in n 0) ≡ question n k
 unfolding question question_from
 from_start n k = ap (option_map (about n k)) (from_empty n (common n k.examples) k.confirmed)
-
--- a row that passes its checks is asked about
-pub asked_when : (row : List ℕ) (counts : Counts) → checked_row row ≡ Ok counts → attribute_fault row ≡ None → reply_with (asked_in row) ≡ asked_of row
-asked_when row counts e f = sym (λ j. reply_unless (fault_or (e j) (f j)) (reply_with (asked_in row)))

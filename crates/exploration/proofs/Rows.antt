@@ -2,7 +2,7 @@
 use Rattle.std.proofs.Common.{◌≡◌, ℕ, ◌^◌, ◌<◌, ◌≤◌, Bool, true, false, cond, ltb, List, length, get_or, Some, Ok, Err, Option, Result, sym, refl, ap, ◌∙◌, arith}
 use Rattle.std.proofs.lemmas.Bool.{lt-ltb, le-ltb, ltb-false}
 use Rattle.exploration.specs.Row.{attributes_in, attribute_fault, checked_row, example_part, first_from, implication_part, unknown_at, unknown_attribute}
-use Rattle.exploration.specs.declared.row.Counts.{Counts}
+use Rattle.exploration.specs.declared.counts.Counts.{Counts}
 use Rattle.replies.specs.declared.reply.Refusal.TheVariants.{RowTooShort, TooManyImplications, TooManyExamples, TooManyAttributes}
 
 -- what the first check hands on

@@ -24,7 +24,7 @@ use Rattle.replies.specs.declared.turn.Step.TheVariants.{Confirm, Name}
 use Rattle.exploration.specs.declared.dialogue.NotHeld.{NotHeld}
 use Rattle.replies.specs.declared.turn.Turn.{Turn}
 use Rattle.replies.specs.declared.reply.Refusal.TheVariants.{NoRoomForExample, NoRoomForImplication, UnknownAttributeNamed}
-use Rattle.exploration.specs.declared.row.Counts.{Counts}
+use Rattle.exploration.specs.declared.counts.Counts.{Counts}
 use Rattle.dialogues.proofs.Asked.{asks, asks_concluded}
 use Rattle.dialogues.proofs.Bounds.{room_taken}
 use Rattle.exploration.proofs.Broken.{object_taken}

@@ -11,7 +11,7 @@ use Rattle.dialogues.specs.Dialogue.{Knowledge}
 use Rattle.exploration.specs.Row.{attributes_in, checked_row, example_part, implication_part, known_in}
 use Rattle.replies.specs.declared.turn.Step.{Step}
 use Rattle.replies.specs.declared.turn.Step.TheVariants.{Confirm, Name}
-use Rattle.exploration.specs.declared.row.Counts.{Counts}
+use Rattle.exploration.specs.declared.counts.Counts.{Counts}
 use Rattle.replies.specs.declared.reply.Refusal.TheVariants.{RowTooShort, TooManyImplications, TooManyExamples}
 use Rattle.exploration.proofs.Rows.{counted}
 

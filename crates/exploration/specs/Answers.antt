@@ -7,10 +7,11 @@ use Rattle.attributes.specs.declared.set.AttributeSet.{AttributeSet}
 use Rattle.contexts.specs.Contexts.{Implication, respects}
 use Rattle.contexts.specs.Values.{implication_at}
 use Rattle.contexts.specs.declared.implication.Implication.{Implication as Pair}
-use Rattle.exploration.specs.Row.{asked_in, attributes_in, known_in, reply_with, row_fault}
-use Rattle.exploration.specs.declared.row.Counts.{Counts}
+use Rattle.exploration.specs.Row.{asked_in, attributes_in, known_in, row_fault}
+use Rattle.exploration.specs.declared.counts.Counts.{Counts}
 use Rattle.exploration.specs.declared.answer.Answer.{Answer as Given}
 use Rattle.exploration.specs.declared.answer.Answer.TheVariants.{Always, Object}
+use Rattle.replies.specs.Refusals.{reply_with}
 use Rattle.replies.specs.declared.reply.Refusal.{Refusal}
 use Rattle.replies.specs.declared.reply.Refusal.TheVariants.{AnswerCutShort, UnknownKind, UnknownAttributeNamed, AlwaysWithNumber, NothingAsked, NotACounterexample, BreaksConfirmed, NoRoomForImplication, NoRoomForExample}
 use Rattle.replies.specs.declared.reply.Reply.{Reply}
@@ -41,14 +42,19 @@ checked_object n confirmed asked named =
     cond (respects (set_in n named.bits) (implication_at n asked)) (Err (NotACounterexample named))
     (unless_broken named (first_broken (set_in n named.bits) confirmed))
 
+-- what is to be written, if there is room for it
+abbrev pub checked_room : Counts → Step → Result Step Refusal
+checked_room counts (Confirm q) = cond (nat_lt counts.implications 4096) (Ok (Confirm q)) (Err NoRoomForImplication)
+checked_room counts (Name s) = cond (nat_lt counts.examples 4096) (Ok (Name s)) (Err NoRoomForExample)
+
 abbrev pub named_if_room : Counts → Result AttributeSet Refusal → Result Step Refusal
-named_if_room counts (Ok named) = cond (nat_lt counts.examples 4096) (Ok (Name named)) (Err NoRoomForExample)
+named_if_room counts (Ok named) = checked_room counts (Name named)
 named_if_room counts (Err refusal) = Err refusal
 
 -- what an answer does to what is asked: the first refusal that applies, or what is to be written
 abbrev pub judged : ℕ → List Implication → Counts → Option Pair → Given → Result Step Refusal
 judged n confirmed counts None answer = Err NothingAsked
-judged n confirmed counts (Some asked) Always = cond (nat_lt counts.implications 4096) (Ok (Confirm asked)) (Err NoRoomForImplication)
+judged n confirmed counts (Some asked) Always = checked_room counts (Confirm asked)
 judged n confirmed counts (Some asked) (Object named) = named_if_room counts (checked_object n confirmed asked named)
 
 abbrev pub judged_given : ℕ → List Implication → Counts → Option Pair → Result Given Refusal → Result Step Refusal

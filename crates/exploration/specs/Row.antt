@@ -1,6 +1,7 @@
 -- What is known, as a lent row of numbers: how many attributes there are, the count of the implications confirmed, the count of the
 -- examples named, room for 4,096 implications of two sets each, and room for 4,096 examples. Definitions only.
-use Rattle.std.specs.Prelude.{ℕ, suc, ◌*◌, ◌^◌, ◌<◌, cond, List, [], ◌∷◌, length, take, drop, IfSome, Some, None, Ok, Err, Option, Result, nat_lt, slice_index, slice_set}
+use Rattle.std.specs.Prelude.{ℕ, ◌*◌, ◌^◌, ◌<◌, cond, List, length, take, drop, IfSome, Some, None, Ok, Err, Option, Result, nat_le, nat_lt, slice_index, slice_set}
+use Rattle.std.specs.List.{position_from}
 use Rattle.std.specs.Option.{option_map}
 use Rattle.attributes.specs.Numbers.{number_of}
 use Rattle.contexts.specs.Contexts.{Implication}
@@ -8,11 +9,12 @@ use Rattle.contexts.specs.Values.{objects_in}
 use Rattle.contexts.specs.declared.implication.Implication.{Implication as Pair}
 use Rattle.implications.specs.Values.{implications_in}
 use Rattle.dialogues.specs.Dialogue.{Knowledge, question}
-use Rattle.exploration.specs.declared.row.Counts.{Counts}
+use Rattle.exploration.specs.declared.counts.Counts.{Counts}
 use Rattle.replies.specs.declared.reply.Refusal.{Refusal}
 use Rattle.replies.specs.declared.reply.Refusal.TheVariants.{RowTooShort, TooManyImplications, TooManyExamples, TooManyAttributes, UnknownAttribute}
 use Rattle.replies.specs.declared.reply.Reply.{Reply}
-use Rattle.replies.specs.declared.reply.Reply.TheVariants.{Question, Finished, Refused}
+use Rattle.replies.specs.declared.reply.Reply.TheVariants.{Refused}
+use Rattle.replies.specs.Refusals.{reply_with}
 
 abbrev pub attributes_in : List ℕ → ℕ
 attributes_in row = slice_index row 0
@@ -24,9 +26,12 @@ implication_part row = take (2 * slice_index row 1) (drop 3 row)
 abbrev pub example_part : List ℕ → List ℕ
 example_part row = take (slice_index row 2) (drop 8195 row)
 
--- what a row knows
+-- what a row says of n attributes, and what it knows
+abbrev pub known_of : ℕ → List ℕ → Knowledge
+known_of n row = record { confirmed = implications_in n (implication_part row); examples = objects_in n (example_part row) }
+
 abbrev pub known_in : List ℕ → Knowledge
-known_in row = record { confirmed = implications_in (attributes_in row) (implication_part row); examples = objects_in (attributes_in row) (example_part row) }
+known_in row = known_of (attributes_in row) row
 
 -- the counts, or the first refusal of number 1 that applies
 abbrev pub checked_row : List ℕ → Result Counts Refusal
@@ -37,9 +42,8 @@ checked_row row =
     (Ok (record { implications = slice_index row 1; examples = slice_index row 2 }))))
 
 -- the place, counted from `at`, of the first number that is not below the limit
-unfoldable pub first_from : ℕ → ℕ → List ℕ → Option ℕ
-first_from limit at [] = None
-first_from limit at (m ∷ ms) = cond (nat_lt m limit) (first_from limit (suc at) ms) (Some at)
+abbrev pub first_from : ℕ → ℕ → List ℕ → Option ℕ
+first_from limit = position_from (λ m. nat_le limit m)
 
 abbrev pub unknown_at : Option ℕ → Option ℕ → Option Refusal
 unknown_at (Some place) later = Some (UnknownAttribute place)
@@ -74,11 +78,6 @@ Bounded n asked = IfSome asked (λ (q : Pair). (q.premise.bits < 2 ^ n) × (q.co
 -- what is asked next with what a row knows, as the code has it
 abbrev pub asked_in : List ℕ → Option Pair
 asked_in row = option_map pair_of (question (attributes_in row) (known_in row))
-
--- what is asked, as a reply
-abbrev pub reply_with : Option Pair → Reply
-reply_with None = Finished
-reply_with (Some q) = Question q
 
 abbrev pub reply_unless : Option Refusal → Reply → Reply
 reply_unless None reply = reply

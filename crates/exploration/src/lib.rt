@@ -5,21 +5,19 @@ ghost use Rattle.std.specs.Prelude.{◌≡◌};
 ghost use Rattle.exploration.specs.Answers.{judged_row, reply_after, row_after};
 ghost use Rattle.exploration.specs.Row.{asked_of, opening, opened};
 
-use answer::judge;
-use asking::reply;
 use beginning::{begin, check_opening};
 use replies::{Refusal, Reply};
-use row::{implications_of, refusal_of};
-use standing::{advance, stand};
+use row::refusal_of;
+use standing::Standing;
 
 mod answer;
 mod asking;
 mod beginning;
+mod counts;
 mod dialogue;
 mod row;
 mod standing;
 mod theorems;
-mod writing;
 
 pub use dialogue::{Dialogue, NotHeld, take_all};
 pub use row::ROW_LENGTH;
@@ -39,11 +37,11 @@ pub fn open(known: &mut [u64], n: u64) -> Result<(), Refusal>
 pub fn question(known: &[u64]) -> Reply
     ensures { result ≡ asked_of known.now }
 {
-    let standing = stand(known);
-    let Ok(standing) = standing else {
+    let standing = Standing::read(known);
+    let Ok(Standing { asked, .. }) = standing else {
         return Reply::Refused(refusal_of(standing));
     };
-    reply(standing.asked)
+    Reply::from(asked)
 }
 
 // Takes an answer to what is asked, or refuses it and leaves the row as it was. Replies with what is asked next.
@@ -51,20 +49,13 @@ pub fn take_answer(known: &mut [u64], answer: &[u64]) -> Reply
     ensures reply { result ≡ reply_after known.old (judged_row known.old answer.now) }
     ensures after { known.new ≡ row_after known.old (judged_row known.old answer.now) }
 {
-    let standing = stand(known);
-    let Ok(standing) = standing else {
+    let standing = Standing::read(known);
+    let Ok(mut standing) = standing else {
         return Reply::Refused(refusal_of(standing));
     };
-    let confirmed = implications_of(known, standing.counts);
-    let step = judge(
-        standing.n,
-        confirmed,
-        standing.counts,
-        standing.asked,
-        answer,
-    );
-    let Ok(step) = step else {
-        return Reply::Refused(refusal_of(step));
+    let outcome = standing.take(known, answer).outcome;
+    let Ok(_) = outcome else {
+        return Reply::Refused(refusal_of(outcome));
     };
-    reply(advance(known, standing, step))
+    Reply::from(standing.asked)
 }

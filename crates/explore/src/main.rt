@@ -9,7 +9,8 @@ use std::io;
 use std::io::Read;
 use std::process::ExitCode;
 
-// An error is told on the standard error in one line; a main that returned it would tell it a second time.
+// An error is told on the standard error in one line; a main that returned it would tell it a second time. Each program begins and ends so: a
+// crate for all three, with its contracts, would be longer than these lines.
 fn main(rt: HostRuntime) -> ExitCode {
     match run(&rt) {
         Ok(()) => ExitCode::SUCCESS,
@@ -42,37 +43,28 @@ fn run(rt: &HostRuntime) -> anyhow::Result<()> {
     Ok(())
 }
 
-// Before each answer what is asked; when nothing is asked any more, once, what was confirmed.
+// Before each answer what is asked. Once nothing is asked any more, what was confirmed, and then what became of the answers that are left.
 fn print_dialogue(rt: &HostRuntime, dialogue: &Dialogue) -> io::Result<()> {
     let turns = dialogue.turns.as_slice();
-    let mut finished = false;
     for turn in turns {
-        finished = print_asked(rt, turn.asked, finished, turns)?;
+        if let Some(question) = turn.asked {
+            println!(rt; "{}", Reply::Question(question))?;
+            println!(rt; "{turn}")?;
+        }
+    }
+    match dialogue.asked {
+        Some(question) => println!(rt; "{}", Reply::Question(question))?,
+        None => print_finished(rt, turns)?,
+    }
+    for turn in turns.iter().filter(|turn| turn.asked.is_none()) {
         println!(rt; "{turn}")?;
     }
-    let _ = print_asked(rt, dialogue.asked, finished, turns)?;
     Ok(())
 }
 
-// Prints a question, or that the dialogue is finished unless that was said, and says whether it is.
-fn print_asked(
-    rt: &HostRuntime,
-    asked: Option<contexts::Implication>,
-    finished: bool,
-    turns: &[Turn],
-) -> io::Result<bool> {
-    let Some(question) = asked else {
-        if !finished {
-            println!(rt; "{}", Reply::Finished)?;
-            print_confirmed(rt, turns)?;
-        }
-        return Ok(true);
-    };
-    println!(rt; "{}", Reply::Question(question))?;
-    Ok(false)
-}
-
-fn print_confirmed(rt: &HostRuntime, turns: &[Turn]) -> io::Result<()> {
+// That the dialogue is finished, and what was confirmed in it.
+fn print_finished(rt: &HostRuntime, turns: &[Turn]) -> io::Result<()> {
+    println!(rt; "{}", Reply::Finished)?;
     for turn in turns {
         if let Ok(Step::Confirm(implication)) = turn.outcome {
             println!(rt; "{implication}")?;

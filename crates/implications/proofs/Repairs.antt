@@ -1,12 +1,12 @@
 -- Walks over a row of implications, and closing a set by repairing what it breaks. Assumes nothing.
-use Rattle.std.proofs.Common.{◌≡◌, ℕ, zero, suc, ◌+◌, ◌*◌, ◌/◌, ◌<◌, ◌≤◌, Bool, true, false, not, ◌||◌, List, [], ◌∷◌, length, get_or, is_some, Some, None, Option, sym, refl, ap, ◌∙◌, inl, inr, arith, MatchOption}
+use Rattle.std.proofs.Common.{◌≡◌, ℕ, zero, suc, ◌+◌, ◌*◌, ◌/◌, ◌<◌, ◌≤◌, Bool, true, false, not, List, [], ◌∷◌, length, get_or, is_some, Some, None, Option, sym, refl, ap, ◌∙◌, inl, inr, arith, MatchOption}
 use Rattle.std.proofs.ByRecursion.{has_get_or}
 use Rattle.std.proofs.lemmas.Bool.{both_ways, cases_Bool}
 use Rattle.std.specs.List.{ContainsAt}
 use Rattle.attributes.specs.Numbers.{set_in}
-use Rattle.attributes.specs.Sets.{Set, subset, complement, missing}
+use Rattle.attributes.specs.Sets.{Set, subset, missing}
 use Rattle.attributes.proofs.Numbers.{length_set_in}
-use Rattle.attributes.proofs.Sets.{subset_refl, subset_trans, join_left, join_right, join_least, length_join, missing_less, subset_complement}
+use Rattle.attributes.proofs.Sets.{subset_refl, subset_trans, join_left, join_right, join_least, length_join, missing_less}
 use Rattle.contexts.specs.Contexts.{Implication, respects}
 use Rattle.contexts.proofs.Holding.{breaks, respects_apply}
 use Rattle.implications.specs.Implications.{respects_all, Closure}
@@ -35,24 +35,6 @@ implication_is n (p ∷ (c ∷ row)) (suc k) h =
 -- a set that respects the implication at each place respects all
 pub respects_places : (s : Set) (is : List Implication) (k : ℕ) → length is ≤ k → ((j : ℕ) → j < k → respects s (get_or is j no_implication) ≡ true) → respects_all s is ≡ true
 respects_places s is k h all = has_respects s is (λ i m. ap (respects s) (sym (m.2 no_implication)) ∙ all m.0 (omega (arith, m.1)))
-
--- a set is inside another if it has nothing outside it
-pub inside_test : (n : ℕ) (s q : Set) (o p : ℕ) (meets : Bool) → length s ≡ n → set_in n o ≡ complement s → set_in n p ≡ q → meets ≡ not (subset (set_in n o) (complement (set_in n p)))
-    → subset q s ≡ not meets
-inside_test n s q o p meets w outside is e =
-    sym (subset_complement s q (w ∙ sym (length_set_in n p) ∙ ap length is))
-    ∙ (λ j. subset (sym outside j) (complement (sym is j)))
-    ∙ sym (not_not (subset (set_in n o) (complement (set_in n p))))
-    ∙ ap not (sym e)
-  where
-    not_not : (b : Bool) → not (not b) ≡ b
-    not_not true = refl
-    not_not false = refl
-
--- a set breaks an implication whose premise it has and whose conclusion it lacks
-pub breaks_from : (s : Set) (i : Implication) → subset i.premise s ≡ true → subset i.conclusion s ≡ false → respects s i ≡ false
-unfolding respects
-breaks_from s i p c = λ j. not (p j) || c j
 
 -- what a search for a broken implication says of the set
 pub respects_if_none : (is : List Implication) (s : Set) (found : Option ℕ) (none : Bool) → MatchOption found (respects_all s is ≡ true) (FirstBroken is s) → is_some found ≡ not none → respects_all s is ≡ none

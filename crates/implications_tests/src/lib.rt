@@ -6,9 +6,8 @@
 #[cfg(test)]
 mod tests {
     use attributes::{AttributeCount, AttributeSet};
-    use contexts::{Implication, common, first_counterexample, holds};
-    use implications::{close, first_broken, follows};
-    use std::process::Abort;
+    use contexts::{Context, Implication};
+    use implications::Implications;
     use std::test::Fail;
 
     // leech, bream, frog, dog, spike-weed, reed, bean, maize
@@ -34,17 +33,11 @@ mod tests {
     ];
 
     fn nine() -> Result<AttributeCount, Fail> {
-        let Some(n) = AttributeCount::new(9) else {
-            return Err(Fail::new("nine is too many"));
-        };
-        Ok(n)
+        Ok(AttributeCount::try_from(9)?)
     }
 
     fn set(number: u64) -> Result<AttributeSet, Fail> {
-        let Some(s) = AttributeSet::from_number(nine()?, number) else {
-            return Err(Fail::new("an attribute that is not there"));
-        };
-        Ok(s)
+        Ok(AttributeSet::from_number(nine()?, number).ok_or("an attribute that is not there")?)
     }
 
     fn implication(premise: u64, conclusion: u64) -> Result<Implication, Fail> {
@@ -54,40 +47,50 @@ mod tests {
         })
     }
 
-    fn check_common(rt: &impl Abort, asked: u64, answer: u64, note: &str) -> Result<(), Fail> {
-        assert_eq!(rt;
-            common(nine()?, &BEINGS, set(asked)?).number(),
-            answer,
-            "{note}"
-        );
-        Ok(())
+    fn beings() -> Result<Context<'static>, Fail> {
+        Ok(Context {
+            n: nine()?,
+            objects: &BEINGS,
+        })
+    }
+
+    fn rules() -> Result<Implications<'static>, Fail> {
+        Ok(Implications {
+            n: nine()?,
+            numbers: &RULES,
+        })
     }
 
     #[test]
     fn beings_in_common(rt: HostRuntime) -> Result<(), Fail> {
-        check_common(&rt, 0, 0b0_0000_0001, "all need water")?;
-        check_common(&rt, 0b0_0000_1000, 0b0_0000_1001, "chlorophyll")?;
-        check_common(&rt, 0b0_1000_0000, 0b0_1100_0001, "limbs")?;
-        check_common(&rt, 0b0_0000_0110, 0b0_0000_0111, "in water and on land")?;
-        check_common(&rt, 0b1_0000_0000, 0b1_1100_0101, "the dog")?;
-        check_common(
-            &rt,
-            0b0_0011_0000,
-            0b1_1111_1111,
-            "no plant has both kinds of seed leaves",
-        )
+        let beings = beings()?;
+        for (asked, answer, note) in [
+            (0, 0b0_0000_0001, "all need water"),
+            (0b0_0000_1000, 0b0_0000_1001, "chlorophyll"),
+            (0b0_1000_0000, 0b0_1100_0001, "limbs"),
+            (0b0_0000_0110, 0b0_0000_0111, "in water and on land"),
+            (0b1_0000_0000, 0b1_1100_0101, "the dog"),
+            (
+                0b0_0011_0000,
+                0b1_1111_1111,
+                "no plant has both kinds of seed leaves",
+            ),
+        ] {
+            assert_eq!(rt; u64::from(beings.common(set(asked)?)), answer, "{note}");
+        }
+        Ok(())
     }
 
     #[test]
     fn beings_break(rt: HostRuntime) -> Result<(), Fail> {
-        let n = nine()?;
+        let beings = beings()?;
         let limbs_move = implication(0b0_1000_0000, 0b0_0100_0000)?;
         let water_moves = implication(0b0_0000_0010, 0b0_0100_0000)?;
-        assert!(rt; holds(n, &BEINGS, limbs_move));
-        assert!(rt; !holds(n, &BEINGS, water_moves));
-        assert_eq!(rt; first_counterexample(n, &BEINGS, limbs_move), None);
+        assert!(rt; beings.holds(limbs_move));
+        assert!(rt; !beings.holds(water_moves));
+        assert_eq!(rt; beings.first_counterexample(limbs_move), None);
         assert_eq!(rt;
-            first_counterexample(n, &BEINGS, water_moves),
+            beings.first_counterexample(water_moves),
             Some(4),
             "spike-weed"
         );
@@ -96,20 +99,17 @@ mod tests {
 
     #[test]
     fn rules_close(rt: HostRuntime) -> Result<(), Fail> {
-        let n = nine()?;
+        let rules = rules()?;
         assert_eq!(rt;
-            close(n, &RULES, set(0b1_0000_0000)?).number(),
+            u64::from(rules.close(set(0b1_0000_0000)?)),
             0b1_1100_0101,
             "two passes"
         );
-        assert_eq!(rt;
-            close(n, &RULES, set(0b0_0000_1000)?).number(),
-            0b0_0000_1000
-        );
-        assert_eq!(rt; first_broken(n, &RULES, set(0b0_1000_0000)?), Some(1));
-        assert_eq!(rt; first_broken(n, &RULES, set(0b0_1100_0001)?), None);
-        assert!(rt; follows(n, &RULES, implication(0b1_0000_0000, 0b0_0100_0001)?));
-        assert!(rt; !follows(n, &RULES, implication(0b0_0100_0000, 0b0_1000_0000)?));
+        assert_eq!(rt; u64::from(rules.close(set(0b0_0000_1000)?)), 0b0_0000_1000);
+        assert_eq!(rt; rules.first_broken(set(0b0_1000_0000)?), Some(1));
+        assert_eq!(rt; rules.first_broken(set(0b0_1100_0001)?), None);
+        assert!(rt; rules.follows(implication(0b1_0000_0000, 0b0_0100_0001)?));
+        assert!(rt; !rules.follows(implication(0b0_0100_0000, 0b0_1000_0000)?));
         Ok(())
     }
 
@@ -119,14 +119,12 @@ mod tests {
         let two = set(0b0_0000_0100)?;
         let one_two = set(0b0_0000_0110)?;
         let zero = set(0b0_0000_0001)?;
-        assert!(rt; two.precedes(one_two) && one_two.precedes(zero) && !zero.precedes(two));
-        assert!(rt;
-            !two.precedes(two) && two.contains(2) && !two.contains(1) && !two.contains(200)
-        );
-        assert_eq!(rt; two.with(8).join(zero).number(), 0b1_0000_0101);
+        assert!(rt; two < one_two && one_two < zero && !(zero < two));
+        assert!(rt; !(two < two) && two.contains(2) && !two.contains(1) && !two.contains(200));
+        assert_eq!(rt; u64::from(two.with(8).join(zero)), 0b1_0000_0101);
         assert_eq!(rt; one_two.meet(two).missing(n), 8);
         assert!(rt; AttributeSet::from_number(n, 512).is_none());
-        assert!(rt; AttributeCount::new(13).is_none());
+        assert!(rt; AttributeCount::try_from(13).is_err());
         Ok(())
     }
 }

@@ -2,15 +2,13 @@
 use Rattle.std.proofs.Common.{◌≡◌, ℕ, zero, suc, ◌^◌, ◌<◌, Bool, true, false, cond, ltb, List, [], ◌∷◌, length, get_or, Some, None, Option, sym, refl, ap, ◌∙◌, inl, inr, arith}
 use Rattle.std.specs.List.{AllByRecursion}
 use Rattle.std.proofs.ByRecursion.{All-get_or}
+use Rattle.std.proofs.lemmas.Option.{none-some}
 use Rattle.std.proofs.lemmas.Bool.{both_ways, ltb-true}
 use Rattle.attributes.specs.Sets.{Set}
 use Rattle.attributes.specs.Lectic.{precedes, sets}
 use Rattle.attributes.proofs.Lectic.{lectic_agrees, order_laws}
 use Rattle.premises.specs.Open.{first}
 use Rattle.premises.specs.Laws.{IsFirst, FirstLaws}
-
-pub no_some : {A : Type 0} {x : A} → None ≡ Some x → ⊥
-no_some e = let z : ◌≡◌ {A = ℕ} 0 1 = cc in omega arith
 
 -- the place at which a search finds a set: it passes, and none before it does
 record Found (test : Set → Bool) (ss : List Set) (s : Set) : Type 0 where
@@ -22,7 +20,7 @@ record Found (test : Set → Bool) (ss : List Set) (s : Set) : Type 0 where
 
 first_found : (test : Set → Bool) (ss : List Set) (s : Set) → first test ss ≡ Some s → Found test ss s
 unfolding first
-first_found test [] s e = absurd (no_some e)
+first_found test [] s e = absurd (none-some _ e)
 first_found test (t ∷ ss) s e = go (test t) refl (first_found test ss s) e
   where
     go : (b : Bool) → test t ≡ b → (first test ss ≡ Some s → Found test ss s) → cond b (Some t) (first test ss) ≡ Some s → Found test (t ∷ ss) s
@@ -45,7 +43,7 @@ first_none test [] e = tt
 first_none test (t ∷ ss) e = go (test t) refl (first_none test ss) e
   where
     go : (b : Bool) → test t ≡ b → (first test ss ≡ None → AllByRecursion (λ (s : Set). test s ≡ false) ss) → cond b (Some t) (first test ss) ≡ None → AllByRecursion (λ (s : Set). test s ≡ false) (t ∷ ss)
-    go true h later found = absurd (no_some (sym found))
+    go true h later found = absurd (none-some _ (sym found))
     go false h later found = (h, later found)
 
 module _ (n : ℕ) (test : Set → Bool) where

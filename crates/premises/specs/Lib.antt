@@ -1,4 +1,3 @@
-pub mod Branches
 pub mod Forced
 pub mod Laws
 pub mod Open

@@ -8,35 +8,39 @@ ghost use Rattle.premises.specs.Open.{about, first_open_from};
 
 use crate::forces::Forces;
 use crate::respecting::next_respecting;
-use attributes::{AttributeCount, AttributeSet};
+use attributes::AttributeSet;
 use contexts::Implication;
-use implications::first_broken;
+use implications::Implications;
 
-// What is asked about the first open set that does not precede `from`. It goes through the sets that respect what is confirmed; only `from`
-// itself, at which it begins, may be none of them.
+// What is asked about the first open set that does not precede `from`. It goes through the sets that respect what is confirmed, and begins at
+// `from`, or behind it if `from` is none of them.
 pub fn first_asked_from<F: Forces>(
-    n: AttributeCount,
     confirmed: &[u64],
     forces: &F,
     from: AttributeSet,
 ) -> Option<Implication>
-    ensures value { option_map (implication_at n.value) result ≡ option_map (about (F.Forces.forced forces.now n.value)) (first_open_from n.value (F.Forces.forced forces.now n.value) (implications_in n.value confirmed.now) (set_in n.value from.bits)) }
-    ensures bound { IfSome result (λ i. (i.premise.bits < 2 ^ n.value) × (i.conclusion.bits < 2 ^ n.value)) }
+    ensures value { option_map (implication_at (F.Forces.width forces.now)) result ≡ option_map (about (F.Forces.forced forces.now)) (first_open_from (F.Forces.width forces.now) (F.Forces.forced forces.now) (implications_in (F.Forces.width forces.now) confirmed.now) (set_in (F.Forces.width forces.now) from.bits)) }
+    ensures bound { IfSome result (λ i. (i.premise.bits < 2 ^ F.Forces.width forces.now) × (i.conclusion.bits < 2 ^ F.Forces.width forces.now)) }
 {
-    let mut reached = Some(from.within(n));
-    let mut respects = first_broken(n, confirmed, from).is_none();
+    let confirmed = Implications {
+        n: forces.count(),
+        numbers: confirmed,
+    };
+    let from = from.within(confirmed.n);
+    let mut reached = if confirmed.first_broken(from).is_none() {
+        Some(from)
+    } else {
+        next_respecting(&confirmed, from)
+    };
     while let Some(premise) = reached {
-        if respects {
-            let conclusion = forces.forced_by(n, premise);
-            if !conclusion.is_subset_of(premise) {
-                return Some(Implication {
-                    premise,
-                    conclusion,
-                });
-            }
+        let conclusion = forces.forced_by(premise);
+        if !conclusion.is_subset_of(premise) {
+            return Some(Implication {
+                premise,
+                conclusion,
+            });
         }
-        respects = true;
-        reached = next_respecting(n, confirmed, premise);
+        reached = next_respecting(&confirmed, premise);
     }
     None
 }

@@ -8,41 +8,51 @@ ghost use Rattle.implications.specs.Values.{implications_in};
 ghost use Rattle.premises.specs.Forced.{closure};
 
 use attributes::{AttributeCount, AttributeSet};
+use contexts::Context;
+use implications::Implications;
 
 // What says which attributes a set forces.
 pub trait Forces {
-    // the attributes forced by a set, among n
-    ghost forced: { Self → ℕ → Set → Set };
+    // how many attributes there are
+    ghost width: { Self → ℕ };
 
-    fn forced_by(&self, n: AttributeCount, s: AttributeSet) -> AttributeSet
-        ensures value { set_in n.value result.bits ≡ forced self.now n.value (set_in n.value s.bits) }
-        ensures bound { result.bits < 2 ^ n.value };
+    // the attributes that a set forces
+    ghost forced: { Self → Set → Set };
+
+    fn count(&self) -> AttributeCount
+        ensures { result.value ≡ width self.now };
+
+    fn forced_by(&self, s: AttributeSet) -> AttributeSet
+        ensures value { set_in (width self.now) result.bits ≡ forced self.now (set_in (width self.now) s.bits) }
+        ensures bound { result.bits < 2 ^ width self.now };
 }
 
-// Objects, each a number of a lent row. A set forces what those that contain it have in common.
-#[derive(Clone, Copy)]
-pub struct Examples<'a> {
-    pub objects: &'a [u64],
-}
+// A set forces what the objects that contain it have in common.
+impl Forces for Context<'_> {
+    ghost width = { λ t. t.n.value };
 
-impl Forces for Examples<'_> {
-    ghost forced = { λ e n s. common n (objects_in n e.objects.now) s };
+    ghost forced = { λ t s. common t.n.value (objects_in t.n.value t.objects.now) s };
 
-    fn forced_by(&self, n: AttributeCount, s: AttributeSet) -> AttributeSet {
-        contexts::common(n, self.objects, s)
+    fn count(&self) -> AttributeCount {
+        self.n
+    }
+
+    fn forced_by(&self, s: AttributeSet) -> AttributeSet {
+        self.common(s)
     }
 }
 
-// Implications, two numbers each of a lent row. A set forces its closure.
-#[derive(Clone, Copy)]
-pub struct Implied<'a> {
-    pub implications: &'a [u64],
-}
+// A set forces its closure.
+impl Forces for Implications<'_> {
+    ghost width = { λ l. l.n.value };
 
-impl Forces for Implied<'_> {
-    ghost forced = { λ l n s. closure n (implications_in n l.implications.now) s };
+    ghost forced = { λ l s. closure l.n.value (implications_in l.n.value l.numbers.now) s };
 
-    fn forced_by(&self, n: AttributeCount, s: AttributeSet) -> AttributeSet {
-        implications::close(n, self.implications, s)
+    fn count(&self) -> AttributeCount {
+        self.n
+    }
+
+    fn forced_by(&self, s: AttributeSet) -> AttributeSet {
+        self.close(s)
     }
 }

@@ -8,29 +8,21 @@ ghost use Rattle.premises.specs.Forced.{closure};
 ghost use Rattle.premises.specs.Laws.{FirstLaws, OpennessMonotone, SearchMayBegin};
 
 // A search through the enumeration of all sets finds the lectically first that passes the test.
-pub fn first_laws() -> u8
+pub fn first_laws()
     ensures { (n : ℕ) (test : Set → Bool) → FirstLaws n test }
-{
-    0
-}
+{}
 
 // What the sets that respect a list have in common is the closure under the list.
-pub fn closure_is_common() -> u8
+pub fn closure_is_common()
     ensures { (n : ℕ) (is : List Implication) → AllByRecursion (Over n) is → (s : Set) → length s ≡ n → Closure n is s (closure n is s) }
-{
-    0
-}
+{}
 
 // A set that is not open stays so when implications or examples are added.
-pub fn openness_monotone() -> u8
+pub fn openness_monotone()
     ensures { OpennessMonotone }
-{
-    0
-}
+{}
 
 // So the next search may begin at the set that was open first.
-pub fn search_may_begin() -> u8
+pub fn search_may_begin()
     ensures { SearchMayBegin }
-{
-    0
-}
+{}

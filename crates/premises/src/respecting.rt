@@ -6,24 +6,18 @@ ghost use Rattle.attributes.specs.Sets.{Set};
 ghost use Rattle.implications.specs.Values.{implications_in};
 ghost use Rattle.premises.specs.Respecting.{LeastInBranch, NextBranch, next_respecting};
 
-use attributes::{AttributeCount, AttributeSet};
-use implications::repair;
+use attributes::AttributeSet;
+use implications::Implications;
 
 // The first behind s. It differs from s first in an attribute that s lacks, and the higher that attribute is the sooner it comes.
-pub(crate) fn next_respecting(
-    n: AttributeCount,
-    implications: &[u64],
-    s: AttributeSet,
-) -> Option<AttributeSet>
-    requires { s.bits < 2 ^ n.value }
-    ensures value { option_map (λ q. set_in n.value q.bits) result ≡ next_respecting n.value (implications_in n.value implications.now) (set_in n.value s.bits) }
-    ensures bound { IfSome result (λ q. q.bits < 2 ^ n.value) }
+pub(crate) fn next_respecting(list: &Implications, s: AttributeSet) -> Option<AttributeSet>
+    requires { s.bits < 2 ^ list.now.n.value }
+    ensures value { option_map (λ q. set_in list.now.n.value q.bits) result ≡ next_respecting list.now.n.value (implications_in list.now.n.value list.now.numbers.now) (set_in list.now.n.value s.bits) }
+    ensures bound { IfSome result (λ q. q.bits < 2 ^ list.now.n.value) }
 {
-    let mut attribute = n.get();
-    while attribute > 0 {
-        attribute -= 1;
+    for attribute in (0..list.n.get()).rev() {
         if !s.contains(attribute) {
-            let next = least_with(n, implications, s, attribute);
+            let next = least_with(list, s, attribute);
             if next.is_some() {
                 return next;
             }
@@ -33,22 +27,18 @@ pub(crate) fn next_respecting(
 }
 
 // The least that has the attributes of s below a given one, no others there, and that one. It is given up as soon as another is forced below.
-fn least_with(
-    n: AttributeCount,
-    implications: &[u64],
-    s: AttributeSet,
-    attribute: u8,
-) -> Option<AttributeSet>
-    requires { attribute < n.value }
-    ensures value { MatchOption result ((t : Set) → NextBranch n.value (implications_in n.value implications.now) (set_in n.value s.bits) attribute t → ⊥) (λ m. LeastInBranch n.value (implications_in n.value implications.now) (set_in n.value s.bits) attribute (set_in n.value m.bits)) }
-    ensures bound { IfSome result (λ m. m.bits < 2 ^ n.value) }
+fn least_with(list: &Implications, s: AttributeSet, attribute: u8) -> Option<AttributeSet>
+    requires { attribute < list.now.n.value }
+    ensures value { MatchOption result ((t : Set) → NextBranch list.now.n.value (implications_in list.now.n.value list.now.numbers.now) (set_in list.now.n.value s.bits) attribute t → ⊥) (λ m. LeastInBranch list.now.n.value (implications_in list.now.n.value list.now.numbers.now) (set_in list.now.n.value s.bits) attribute (set_in list.now.n.value m.bits)) }
+    ensures bound { IfSome result (λ m. m.bits < 2 ^ list.now.n.value) }
 {
-    let mut reached = s.below(attribute).with(attribute);
-    while let Some(more) = repair(n, implications, reached) {
-        if more.below(attribute) != s.below(attribute) {
+    let below = s.below(attribute);
+    let mut least = below.with(attribute);
+    while let Some(more) = list.repair(least) {
+        if more.below(attribute) != below {
             return None;
         }
-        reached = more;
+        least = more;
     }
-    Some(reached)
+    Some(least)
 }

@@ -1,1 +1,1 @@
-mod Pairing
+mod Chunks

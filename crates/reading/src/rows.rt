@@ -1,60 +1,42 @@
 // Contexts and lists read from bytes into rows.
-ghost use Rattle.std.specs.Prelude.{◌≡◌, ◌<◌, ◌≤◌, ◌∷◌, ◌++◌, length, IfOk, OnOk};
-ghost use Rattle.reading.specs.RowBytes.{behind, context_from, list_count, list_from, number_by, pair_numbers};
+ghost use Rattle.std.specs.Prelude.{◌≡◌, ℕ, ◌<◌, ◌∷◌, length, IfOk, MatchOption, slice_index};
+ghost use Rattle.reading.specs.RowBytes.{ComputesNumber, SplitsList, behind, context_from, list_from, object_number, pair_numbers, set_number};
 
 use std::alloc::{AllocError, Global};
 
-// What a pair of bytes stands for.
-#[derive(Clone, Copy)]
-enum Pair {
-    // An object: 1 plus 16 times its higher attributes, and the low eight.
-    Object,
-    // A set: its higher attributes, and the low eight.
-    Set,
-}
-
-impl Pair {
-    // The number of a row that the pair stands for.
-    fn number(self, high: u8, low: u8) -> u64
-        ensures { result ≡ number_by self high low }
-    {
-        match self {
-            Pair::Object => {
-                if high % 16 == 1 {
-                    u64::from(high / 16) * 256 + u64::from(low)
-                } else {
-                    65536
-                }
-            }
-            Pair::Set => u64::from(high) * 256 + u64::from(low),
-        }
-    }
-}
-
-// Adds the numbers of the pairs to a row.
-fn push_pairs(kind: Pair, row: &mut Vec<u64>, bytes: &[u8]) -> Result<(), AllocError>
-    ensures { OnOk result (row.new.items ≡ row.old.items ++ pair_numbers kind bytes.now) }
+// The number of a set in two bytes: its higher attributes, and the low eight.
+pub(crate) fn set_number(pair: [u8; 2]) -> u64
+    ensures { result ≡ set_number (slice_index pair 0) (slice_index pair 1) }
 {
-    for place in 0..bytes.len() / 2 {
-        row.push(kind.number(bytes[2 * place], bytes[2 * place + 1]))?;
-    }
-    Ok(())
+    u64::from(u16::from_be_bytes(pair))
 }
 
-// The row with these two numbers and those of the pairs.
-fn row_of(
+// The number of an object in two bytes: 1 plus 16 times its higher attributes, and the low eight. Any other pair has an attribute that is not there.
+fn object_number(pair: [u8; 2]) -> u64
+    ensures { result ≡ object_number (slice_index pair 0) (slice_index pair 1) }
+{
+    let [high, low] = pair;
+    if high % 16 == 1 {
+        set_number([high / 16, low])
+    } else {
+        65536
+    }
+}
+
+// The row with these two numbers and those of the pairs, by what a pair stands for.
+fn row_of<F: Fn([u8; 2]) -> u64>(
     heap: Global,
     n: u8,
     count: usize,
-    kind: Pair,
+    number: F,
     bytes: &[u8],
 ) -> Result<Vec<u64>, AllocError>
-    ensures { IfOk result (λ v. v.items ≡ n ∷ (count ∷ pair_numbers kind bytes.now)) }
+    requires { (f : _) (pair : _) → F.FnMut.pre f pair }
+    ensures { (f : ℕ → ℕ → ℕ) → ComputesNumber (F.post number) f → IfOk result (λ v. v.items ≡ n ∷ (count ∷ pair_numbers f bytes.now)) }
 {
-    let mut row = Vec::new(heap);
-    row.push(u64::from(n))?;
-    row.push(count as u64)?;
-    push_pairs(kind, &mut row, bytes)?;
+    let mut row = vec![in heap; u64::from(n), count as u64]?;
+    let (pairs, _) = bytes.as_chunks();
+    row.extend(pairs.iter().copied().map(number))?;
     Ok(row)
 }
 
@@ -62,43 +44,35 @@ fn row_of(
 pub fn context_from_bytes(heap: Global, n: u8, bytes: &[u8]) -> Result<Vec<u64>, AllocError>
     ensures { IfOk result (λ v. v.items ≡ context_from n bytes.now) }
 {
-    row_of(heap, n, bytes.len() - bytes.len() / 2, Pair::Object, bytes)
+    row_of(heap, n, bytes.len().div_ceil(2), object_number, bytes)
 }
 
 // The row of the list that begins these bytes: a pair for the count, and then two pairs for each implication.
 pub fn list_from_bytes(heap: Global, n: u8, bytes: &[u8]) -> Result<Vec<u64>, AllocError>
     ensures { IfOk result (λ v. v.items ≡ list_from n bytes.now) }
 {
-    if bytes.len() < 2 {
-        return vec![in heap; u64::from(n); 1];
+    match split_list(bytes) {
+        Some((count, list, _)) => row_of(heap, n, count, set_number, list),
+        None => Ok(vec![in heap; u64::from(n)]?),
     }
-    let count = list_count(bytes);
-    let rest = &bytes[2..];
-    row_of(
-        heap,
-        n,
-        count,
-        Pair::Set,
-        &rest[..rest.len().min(4 * count)],
-    )
 }
 
 // The bytes behind the list that begins these.
 pub fn behind_list(bytes: &[u8]) -> &[u8]
     ensures { result.now ≡ behind bytes.now }
 {
-    if bytes.len() < 2 {
-        return &bytes[bytes.len()..];
+    match split_list(bytes) {
+        Some((_, _, behind)) => behind,
+        None => &[],
     }
-    let rest = &bytes[2..];
-    &rest[rest.len().min(4 * list_count(bytes))..]
 }
 
-// The count of a list, in its first two bytes.
-fn list_count(bytes: &[u8]) -> usize
-    requires { 2 ≤ length bytes.now }
-    ensures value { result ≡ list_count bytes.now }
-    ensures bound { result < 65536 }
+// The count of the list that begins these bytes, its implications' pairs and what is behind them; None without a whole count.
+fn split_list(bytes: &[u8]) -> Option<(usize, &[u8], &[u8])>
+    ensures { MatchOption result (length bytes.now < 2) (λ parts. SplitsList bytes.now parts.0 parts.1.now parts.2.now) }
 {
-    usize::from(bytes[0]) * 256 + usize::from(bytes[1])
+    let (count, rest) = bytes.split_first_chunk()?;
+    let count = usize::from(u16::from_be_bytes(*count));
+    let (list, behind) = rest.split_at(rest.len().min(4 * count));
+    Some((count, list, behind))
 }

@@ -1,7 +1,8 @@
 -- The number and the place by which each refusal is told, and replies as text. Definitions only.
-use Rattle.std.specs.Prelude.{ℕ, List, ◌++◌, Ok, Err, codes, decimal, Result}
+use Rattle.std.specs.Prelude.{ℕ, List, ◌++◌, Some, None, Ok, Err, codes, decimal, Option, Result}
 use Rattle.attributes.specs.Numbers.{set_in}
 use Rattle.attributes.specs.Text.{written}
+use Rattle.contexts.specs.declared.implication.Implication.{Implication}
 use Rattle.replies.specs.declared.turn.Step.{Step}
 use Rattle.replies.specs.declared.turn.Step.TheVariants.{Confirm, Name}
 use Rattle.replies.specs.declared.reply.Refusal.{Refusal}
@@ -43,6 +44,11 @@ refusal_place NoRoomForExample = 2
 
 abbrev pub refusal_text : Refusal → List ℕ
 refusal_text r = codes "refused " ++ (decimal (refusal_number r) ++ (codes " at " ++ decimal (refusal_place r)))
+
+-- what is asked, as a reply
+abbrev pub reply_with : Option Implication → Reply
+reply_with None = Finished
+reply_with (Some q) = Question q
 
 abbrev pub reply_text : Reply → List ℕ
 reply_text (Question q) =

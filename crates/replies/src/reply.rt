@@ -1,13 +1,13 @@
 // What the entries reply.
 ghost use Rattle.std.specs.Prelude.{◌≡◌, Some};
-ghost use Rattle.replies.specs.Refusals.{refusal_number, refusal_place, refusal_text, reply_text};
+ghost use Rattle.replies.specs.Refusals.{refusal_number, refusal_place, refusal_text, reply_text, reply_with};
 
 use attributes::AttributeSet;
 use contexts::Implication;
 use std::fmt;
 
 // Why an entry refused. What is known is then as it was.
-#[derive(Clone, Copy)]
+#[derive(Clone, Copy, PartialEq, Eq, Debug)]
 pub enum Refusal {
     // The lent row has this length, and that is too short.
     RowTooShort(usize),
@@ -40,7 +40,7 @@ pub enum Refusal {
 }
 
 impl Refusal {
-    // The number by which the refusal is told.
+    // The number by which the refusal is told: a rule of the project, like the place.
     pub fn number(self) -> u64
         ensures { result ≡ refusal_number self }
     {
@@ -73,7 +73,7 @@ impl Refusal {
             Refusal::UnknownAttributeNamed => 1,
             Refusal::AlwaysWithNumber => 1,
             Refusal::NothingAsked => 0,
-            Refusal::NotACounterexample(object) => object.number(),
+            Refusal::NotACounterexample(object) => u64::from(object),
             Refusal::BreaksConfirmed(place) => place as u64,
             Refusal::NoRoomForImplication => 1,
             Refusal::NoRoomForExample => 2,
@@ -92,13 +92,22 @@ impl fmt::Display for Refusal {
     }
 }
 
-#[derive(Clone, Copy)]
+#[derive(Clone, Copy, PartialEq, Eq, Debug)]
 pub enum Reply {
     // Have all objects with the premise also the conclusion?
     Question(Implication),
     // Nothing is left to ask.
     Finished,
     Refused(Refusal),
+}
+
+// What is asked, as a reply.
+impl From<Option<Implication>> for Reply {
+    ghost from_gives = { λ asked reply. reply ≡ reply_with asked };
+
+    fn from(asked: Option<Implication>) -> Reply {
+        asked.map_or(Reply::Finished, Reply::Question)
+    }
 }
 
 // A reply as a line of text.

@@ -8,7 +8,7 @@ use contexts::Implication;
 use std::fmt;
 
 // What an answer that is taken does.
-#[derive(Clone, Copy)]
+#[derive(Clone, Copy, PartialEq, Eq, Debug)]
 pub enum Step {
     // The implication is confirmed.
     Confirm(Implication),
@@ -17,7 +17,7 @@ pub enum Step {
 }
 
 // What was asked before an answer, and what became of the answer.
-#[derive(Clone, Copy)]
+#[derive(Clone, Copy, PartialEq, Eq, Debug)]
 pub struct Turn {
     pub asked: Option<Implication>,
     pub outcome: Result<Step, Refusal>,

@@ -3,13 +3,14 @@
 
 use anyhow::anyhow;
 use attributes::AttributeCount;
-use bases::{BASE_LENGTH, Reply, base_of_context, implications_of};
-use implications::Listed;
+use bases::{BASE_LENGTH, base_of_context, implications_of};
+use implications::Implications;
 use reading::context_from_bytes;
 use std::io::Read;
 use std::process::ExitCode;
 
-// An error is told on the standard error in one line; a main that returned it would tell it a second time.
+// An error is told on the standard error in one line; a main that returned it would tell it a second time. Each program begins and ends so: a
+// crate for all three, with its contracts, would be longer than these lines.
 fn main(rt: HostRuntime) -> ExitCode {
     match run(&rt) {
         Ok(()) => ExitCode::SUCCESS,
@@ -30,16 +31,16 @@ fn run(rt: &HostRuntime) -> anyhow::Result<()> {
     let context = context_from_bytes(heap, *n, objects)?;
     let mut base = vec![in heap; 0u64; BASE_LENGTH]?;
     match base_of_context(context.as_slice(), base.as_mut_slice()) {
-        Reply::Written => print_list(rt, u64::from(*n), implications_of(base.as_slice()))?,
-        Reply::Refused(refusal) => println!(rt; "{refusal}")?,
+        Ok(()) => print_list(rt, u64::from(*n), implications_of(base.as_slice()))?,
+        Err(refusal) => println!(rt; "{refusal}")?,
     }
     Ok(())
 }
 
 // Prints a line for each implication; more than twelve attributes have been refused before.
-fn print_list(rt: &HostRuntime, n: u64, implications: &[u64]) -> anyhow::Result<()> {
-    if let Some(n) = AttributeCount::new(n) {
-        print!(rt; "{}", Listed { n, implications })?;
+fn print_list(rt: &HostRuntime, n: u64, numbers: &[u64]) -> anyhow::Result<()> {
+    if let Ok(n) = AttributeCount::try_from(n) {
+        print!(rt; "{}", Implications { n, numbers })?;
     }
     Ok(())
 }

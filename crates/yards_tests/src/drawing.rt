@@ -22,12 +22,7 @@ impl Draw {
 
     // A set of n attributes, of which each is in it with so many chances in eight.
     pub fn set(&mut self, n: u32, chances: u64) -> u64 {
-        let mut s = 0;
-        for attribute in 0..n {
-            if self.below(8) < chances {
-                s |= power(attribute);
-            }
-        }
-        s
+        let drawn = (0..n).filter(|_| self.below(8) < chances);
+        drawn.fold(0, |s, attribute| s | power(attribute))
     }
 }

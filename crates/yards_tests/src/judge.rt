@@ -1,6 +1,6 @@
 // A judge of answers who goes down the list of refusals.
-use crate::naive::{Rule, asked, first_broken, power};
-use crate::rows::{EXAMPLES, RULES, at, confirmed_in, examples_in, put};
+use crate::naive::{Known, Rule, power};
+use crate::rows::{EXAMPLES, RULES, at, known_in, put};
 
 // Why an answer is refused, in the order of the list.
 #[derive(Clone, Copy)]
@@ -22,6 +22,9 @@ pub enum Fault {
     NoRoomForExample,
 }
 
+// How many faults there are.
+pub const FAULTS: usize = Fault::NoRoomForExample as usize + 1;
+
 impl Fault {
     // The number by which the refusal is told.
     pub fn number(self) -> u64 {
@@ -35,142 +38,125 @@ impl Fault {
             Fault::NoRoomForRule | Fault::NoRoomForExample => 7,
         }
     }
+
+    // The refusal at a place.
+    fn at(self, place: u64) -> Refused {
+        Refused { fault: self, place }
+    }
 }
 
+// A refusal, with the place that is told.
 #[derive(Clone, Copy)]
-pub enum Verdict {
-    // Refused, with the place that is told.
-    Refused(Fault, u64),
-    // To be written behind the implications.
+pub struct Refused {
+    pub fault: Fault,
+    pub place: u64,
+}
+
+// What an answer that is taken adds to a row.
+#[derive(Clone, Copy)]
+pub enum Taken {
+    // A rule, to be written behind the implications.
     Confirm(Rule),
-    // To be written behind the examples.
+    // An object, to be written behind the examples.
     Name(u64),
 }
 
-// How many verdicts there are: a refusal for each fault, and two that are none.
-pub const VERDICTS: usize = 17;
-
-impl Verdict {
-    // The place among all verdicts.
-    pub fn place(self) -> usize {
-        match self {
-            Verdict::Refused(fault, _) => fault as usize,
-            Verdict::Confirm(_) => 15,
-            Verdict::Name(_) => 16,
-        }
-    }
-}
-
-// The place in a row of the first number that is not below a limit, of so many from a place on.
-fn first_strange(row: &[u64], start: usize, count: u64, limit: u64) -> Option<u64> {
-    for place in start..start.saturating_add(count as usize) {
-        if at(row, place) >= limit {
-            return Some(place as u64);
-        }
-    }
-    None
-}
-
-fn attributes_in(row: &[u64]) -> u32 {
-    u32::try_from(at(row, 0)).unwrap_or(0)
+// The place of the first number that has an attribute that is not there.
+fn first_strange(n: u32, numbers: &[u64]) -> Option<u64> {
+    let place = numbers.iter().position(|number| *number >= power(n))?;
+    Some(place as u64)
 }
 
 // Refusals 1 and 2.
-pub fn row_fault(row: &[u64]) -> Option<Verdict> {
+fn check_row(row: &[u64]) -> Result<(), Refused> {
     if row.len() < 12291 {
-        return Some(Verdict::Refused(Fault::ShortRow, row.len() as u64));
+        return Err(Fault::ShortRow.at(row.len() as u64));
     }
     if at(row, 1) > 4096 {
-        return Some(Verdict::Refused(Fault::ManyRules, 1));
+        return Err(Fault::ManyRules.at(1));
     }
     if at(row, 2) > 4096 {
-        return Some(Verdict::Refused(Fault::ManyExamples, 2));
+        return Err(Fault::ManyExamples.at(2));
     }
     if at(row, 0) > 12 {
-        return Some(Verdict::Refused(Fault::ManyAttributes, 0));
+        return Err(Fault::ManyAttributes.at(0));
     }
-    strange_number(row)
+    check_numbers(known_in(row))
 }
 
-fn strange_number(row: &[u64]) -> Option<Verdict> {
-    let limit = power(attributes_in(row));
-    if let Some(place) = first_strange(row, RULES, at(row, 1).saturating_mul(2), limit) {
-        return Some(Verdict::Refused(Fault::StrangeRule, place));
+fn check_numbers(known: Known<'_>) -> Result<(), Refused> {
+    if let Some(place) = first_strange(known.n, known.rules) {
+        return Err(Fault::StrangeRule.at(place.saturating_add(RULES as u64)));
     }
-    if let Some(place) = first_strange(row, EXAMPLES, at(row, 2), limit) {
-        return Some(Verdict::Refused(Fault::StrangeExample, place));
+    if let Some(place) = first_strange(known.n, known.examples) {
+        return Err(Fault::StrangeExample.at(place.saturating_add(EXAMPLES as u64)));
     }
-    None
+    Ok(())
 }
 
-// Refusal 3.
-fn answer_fault(n: u32, answer: &[u64]) -> Option<Verdict> {
-    if answer.len() < 2 {
-        return Some(Verdict::Refused(Fault::ShortAnswer, answer.len() as u64));
+// The object that an answer names; None if it says always. Refusal 3.
+fn named_in(n: u32, answer: &[u64]) -> Result<Option<u64>, Refused> {
+    match answer {
+        [0, 0, ..] => Ok(None),
+        [0, _, ..] => Err(Fault::NumberedAlways.at(1)),
+        [1, object, ..] if *object < power(n) => Ok(Some(*object)),
+        [1, _, ..] => Err(Fault::StrangeObject.at(1)),
+        [_, _, ..] => Err(Fault::NoKind.at(0)),
+        _ => Err(Fault::ShortAnswer.at(answer.len() as u64)),
     }
-    if at(answer, 0) > 1 {
-        return Some(Verdict::Refused(Fault::NoKind, 0));
-    }
-    if at(answer, 0) == 1 && at(answer, 1) >= power(n) {
-        return Some(Verdict::Refused(Fault::StrangeObject, 1));
-    }
-    if at(answer, 0) == 0 && at(answer, 1) != 0 {
-        return Some(Verdict::Refused(Fault::NumberedAlways, 1));
-    }
-    None
 }
 
-// What is asked with what a row without fault knows.
-pub fn asked_in(row: &[u64]) -> Option<Rule> {
-    asked(attributes_in(row), confirmed_in(row), examples_in(row))
+// What is asked in a row.
+pub fn asked_in(row: &[u64]) -> Result<Option<Rule>, Refused> {
+    check_row(row)?;
+    Ok(known_in(row).asked())
 }
 
 // What an answer does to a row.
-pub fn judged(row: &[u64], answer: &[u64]) -> Verdict {
-    if let Some(refused) = row_fault(row) {
-        return refused;
+pub fn judged(row: &[u64], answer: &[u64]) -> Result<Taken, Refused> {
+    check_row(row)?;
+    let known = known_in(row);
+    let named = named_in(known.n, answer)?;
+    let asked = known.asked().ok_or(Fault::NothingAsked.at(0))?;
+    match named {
+        None => confirm(known, asked),
+        Some(object) => name(known, asked, object),
     }
-    if let Some(refused) = answer_fault(attributes_in(row), answer) {
-        return refused;
+}
+
+// Refusal 7 for a rule.
+fn confirm(known: Known<'_>, asked: Rule) -> Result<Taken, Refused> {
+    if known.rules.len() == 2 * 4096 {
+        return Err(Fault::NoRoomForRule.at(1));
     }
-    let Some(asked) = asked_in(row) else {
-        return Verdict::Refused(Fault::NothingAsked, 0);
-    };
-    if at(answer, 0) == 1 {
-        return named(row, asked, at(answer, 1));
-    }
-    if at(row, 1) == 4096 {
-        return Verdict::Refused(Fault::NoRoomForRule, 1);
-    }
-    Verdict::Confirm(asked)
+    Ok(Taken::Confirm(asked))
 }
 
 // Refusals 5 to 7 for an object.
-fn named(row: &[u64], asked: Rule, object: u64) -> Verdict {
+fn name(known: Known<'_>, asked: Rule, object: u64) -> Result<Taken, Refused> {
     if asked.is_respected_by(object) {
-        return Verdict::Refused(Fault::NoCounterexample, object);
+        return Err(Fault::NoCounterexample.at(object));
     }
-    if let Some(place) = first_broken(confirmed_in(row), object) {
-        return Verdict::Refused(Fault::BreaksConfirmed, place as u64);
+    if let Some(place) = known.first_broken(object) {
+        return Err(Fault::BreaksConfirmed.at(place as u64));
     }
-    if at(row, 2) == 4096 {
-        return Verdict::Refused(Fault::NoRoomForExample, 2);
+    if known.examples.len() == 4096 {
+        return Err(Fault::NoRoomForExample.at(2));
     }
-    Verdict::Name(object)
+    Ok(Taken::Name(object))
 }
 
-// Writes what the verdict says: one entry behind the others, and its count.
-pub fn write(row: &mut [u64], verdict: Verdict) {
-    match verdict {
-        Verdict::Refused(_, _) => {}
-        Verdict::Confirm(rule) => {
+// Writes what is taken: one entry behind the others, and its count.
+pub fn write(row: &mut [u64], taken: Taken) {
+    match taken {
+        Taken::Confirm(rule) => {
             let count = at(row, 1);
             let place = (count as usize).saturating_mul(2).saturating_add(RULES);
             put(row, place, rule.premise);
             put(row, place.saturating_add(1), rule.conclusion);
             put(row, 1, count.saturating_add(1));
         }
-        Verdict::Name(object) => {
+        Taken::Name(object) => {
             let count = at(row, 2);
             put(row, (count as usize).saturating_add(EXAMPLES), object);
             put(row, 2, count.saturating_add(1));

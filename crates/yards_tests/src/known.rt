@@ -1,23 +1,22 @@
 // Contexts whose bases are known.
-use crate::drawing::Draw;
 use crate::naive::{everything, is_within, lectic, power};
 use crate::yards::Found;
-use std::alloc::Global;
 use std::process::Abort;
 use std::test::Fail;
 
 // These rules are the base of these objects, by the library and by the naive computation.
 fn check_known(
-    rt: &impl Abort,
-    heap: Global,
+    rt: &(impl Abort + AllocGlobal),
     n: u32,
     objects: &[u64],
     rules: &[u64],
     note: &str,
 ) -> Result<(), Fail> {
-    let mut found = Found::new(heap)?;
-    found.yard.extend_from_slice(objects)?;
-    found.check_bases(rt, n, &mut Draw { state: 1 }, note)?;
+    let mut found = Found::new(rt.alloc())?;
+    found.n = n;
+    found.objects.extend_from_slice(objects)?;
+    found.note.push_str(note)?;
+    found.check_bases(rt)?;
     assert_eq!(rt; found.naive.as_slice(), rules, "{note}");
     Ok(())
 }
@@ -34,14 +33,14 @@ const OF_TRIANGLES: [u64; 8] = [
 
 #[test]
 fn triangles(rt: HostRuntime) -> Result<(), Fail> {
-    check_known(&rt, rt.alloc(), 5, &TRIANGLES, &OF_TRIANGLES, "triangles")
+    check_known(&rt, 5, &TRIANGLES, &OF_TRIANGLES, "triangles")
 }
 
 // The objects are all sets of k attributes, k + 2 at most n: then each set of k + 1 brings everything, and there is no other rule, as the
 // definition has it.
-fn check_sets_of(rt: &impl Abort, heap: Global, n: u32, k: u32) -> Result<(), Fail> {
-    let mut objects = Vec::new(heap);
-    let mut rules = Vec::new(heap);
+fn check_sets_of(rt: &(impl Abort + AllocGlobal), n: u32, k: u32) -> Result<(), Fail> {
+    let mut objects = Vec::new(rt.alloc());
+    let mut rules = Vec::new(rt.alloc());
     for place in 0..power(n) {
         let s = lectic(n, place);
         if s.count_ones() == k {
@@ -51,42 +50,31 @@ fn check_sets_of(rt: &impl Abort, heap: Global, n: u32, k: u32) -> Result<(), Fa
             rules.extend_from_slice(&[s, everything(n)])?;
         }
     }
-    let note = format!(in heap; "the sets of {k} of {n} attributes")?;
-    check_known(
-        rt,
-        heap,
-        n,
-        objects.as_slice(),
-        rules.as_slice(),
-        note.as_str(),
-    )
+    let note = format!(in rt.alloc(); "the sets of {k} of {n} attributes")?;
+    check_known(rt, n, objects.as_slice(), rules.as_slice(), note.as_str())
 }
 
 #[test]
 fn sets_of_one_size(rt: HostRuntime) -> Result<(), Fail> {
     for k in 0..6 {
-        check_sets_of(&rt, rt.alloc(), 7, k)?;
+        check_sets_of(&rt, 7, k)?;
     }
-    check_sets_of(&rt, rt.alloc(), 12, 1)?;
-    check_sets_of(&rt, rt.alloc(), 12, 5)
+    check_sets_of(&rt, 12, 1)?;
+    check_sets_of(&rt, 12, 5)
 }
 
 // Whether a set has 0 not, and one of each pair of attributes i and k + i.
 fn has_one_of_each(s: u64, k: u32) -> bool {
-    for one in 1..k.saturating_add(1) {
-        if is_within(power(one), s) == is_within(power(one.saturating_add(k)), s) {
-            return false;
-        }
-    }
-    !is_within(1, s)
+    let has = |attribute: u32| is_within(power(attribute), s);
+    !has(0) && (1..=k).all(|i| has(i) != has(i.saturating_add(k)))
 }
 
 // For each pair i and k + i an object has all attributes but these and 0, and for each attribute but 0 an object has all others. What has one of
 // each pair has 0 as well, and that is all. So 3k objects with 2k + 1 attributes have a base of 2^k rules: such contexts stand in Kuznetsov, "On
 // the Intractability of Computing the Duquenne-Guigues Base", Journal of Universal Computer Science 10(8), 2004.
-fn check_crowded(rt: &impl Abort, heap: Global, k: u32) -> Result<(), Fail> {
+fn check_crowded(rt: &(impl Abort + AllocGlobal), k: u32) -> Result<(), Fail> {
     let n = k.saturating_mul(2).saturating_add(1);
-    let mut objects = Vec::new(heap);
+    let mut objects = Vec::new(rt.alloc());
     for attribute in 1..n {
         objects.push(everything(n) & !power(attribute))?;
         let pair = power(attribute) | power(attribute.saturating_add(k));
@@ -94,7 +82,7 @@ fn check_crowded(rt: &impl Abort, heap: Global, k: u32) -> Result<(), Fail> {
             objects.push(everything(n) & !pair & !1)?;
         }
     }
-    let mut rules = Vec::new(heap);
+    let mut rules = Vec::new(rt.alloc());
     for place in 0..power(n) {
         let s = lectic(n, place);
         if has_one_of_each(s, k) {
@@ -102,21 +90,14 @@ fn check_crowded(rt: &impl Abort, heap: Global, k: u32) -> Result<(), Fail> {
         }
     }
     assert_eq!(rt; rules.len() as u64, power(k).wrapping_mul(2));
-    let note = format!(in heap; "{k} pairs")?;
-    check_known(
-        rt,
-        heap,
-        n,
-        objects.as_slice(),
-        rules.as_slice(),
-        note.as_str(),
-    )
+    let note = format!(in rt.alloc(); "{k} pairs")?;
+    check_known(rt, n, objects.as_slice(), rules.as_slice(), note.as_str())
 }
 
 #[test]
 fn many_rules_for_few_objects(rt: HostRuntime) -> Result<(), Fail> {
     for k in 1..6 {
-        check_crowded(&rt, rt.alloc(), k)?;
+        check_crowded(&rt, k)?;
     }
     Ok(())
 }

@@ -1,7 +1,6 @@
 // That no shorter list will do, by trying every list.
-use crate::drawing::Draw;
-use crate::naive::{Rule, everything, is_within, power};
-use crate::rows::{at, put};
+use crate::naive::{Rule, Yard, everything, is_within, power};
+use crate::rows::at;
 use crate::yards::Found;
 use std::alloc::{AllocError, Global};
 use std::process::Abort;
@@ -14,42 +13,37 @@ fn sets(n: u32) -> u32 {
 
 // The sets of n attributes that respect a rule, as a number in which 2^s stands for the set s. So n is 4 at most.
 fn respecting(n: u32, rule: Rule) -> u64 {
-    let mut respecting = 0;
-    for s in 0..sets(n) {
-        if rule.is_respected_by(u64::from(s)) {
-            respecting |= power(s);
-        }
-    }
-    respecting
+    let respecting = (0..sets(n)).filter(|s| rule.is_respected_by(u64::from(*s)));
+    respecting.fold(0, |all, s| all | power(s))
 }
 
 // What each rule that holds in a yard leaves of all sets, but for rules that leave all. A list that tells the yard has no other rules, since each
 // of its rules must hold.
-fn respecting_each(n: u32, yard: &[u64], each: &mut Vec<u64>) -> Result<(), AllocError> {
-    each.clear();
-    for premise in 0..power(n) {
-        for conclusion in 0..power(n) {
+fn respecting_each(heap: Global, yard: Yard<'_>) -> Result<Vec<u64>, AllocError> {
+    let mut each = Vec::new(heap);
+    for premise in 0..power(yard.n) {
+        for conclusion in 0..power(yard.n) {
             let rule = Rule {
                 premise,
                 conclusion,
             };
-            if rule.holds(yard) && !is_within(conclusion, premise) {
-                each.push(respecting(n, rule))?;
+            if rule.holds(yard.objects) && !is_within(conclusion, premise) {
+                each.push(respecting(yard.n, rule))?;
             }
         }
     }
-    Ok(())
+    Ok(each)
 }
 
-// What lists of so many rules leave of all sets is marked with 1 plus that number. This marks what lists with one more rule leave, and no list
-// that is shorter: every list gets its turn, but of those that leave the same sets only one is tried further.
-fn mark_more(marks: &mut [u64], each: &[u64], mark: u64) {
+// What lists of so many rules leave of all sets, and no shorter list, is marked with that number. This marks what lists with one more rule leave,
+// and no list that is shorter: every list gets its turn, but of those that leave the same sets only one is tried further. It goes over places, since it
+// writes the slice that it walks.
+fn mark_more(marks: &mut [Option<u64>], each: &[u64], rules: u64) {
     for left in 0..marks.len() {
-        if at(marks, left) == mark {
+        if marks.get(left).copied().flatten() == Some(rules) {
             for respecting in each {
-                let fewer = left & *respecting as usize;
-                if at(marks, fewer) == 0 {
-                    put(marks, fewer, mark.saturating_add(1));
+                if let Some(mark) = marks.get_mut(left & *respecting as usize) {
+                    mark.get_or_insert(rules.saturating_add(1));
                 }
             }
         }
@@ -58,89 +52,62 @@ fn mark_more(marks: &mut [u64], each: &[u64], mark: u64) {
 
 // How many rules the shortest list has that tells a yard: one whose respecting sets respect every rule that holds. Sixteen are more than enough,
 // since each rule of a shortest list takes away a set.
-fn shortest(marks: &mut [u64], each: &[u64], all: u64) -> u64 {
-    let mut wanted = all;
-    for respecting in each {
-        wanted &= *respecting;
+fn shortest(heap: Global, n: u32, each: &[u64]) -> Result<Option<u64>, AllocError> {
+    let all = everything(sets(n));
+    let wanted = each.iter().fold(all, |left, respecting| left & respecting);
+    let mut marks = vec![in heap; None; power(sets(n)) as usize]?;
+    if let Some(mark) = marks.get_mut(all as usize) {
+        *mark = Some(0);
     }
-    marks.fill(0);
-    put(marks, all as usize, 1);
-    for mark in 1..17 {
-        mark_more(marks, each, mark);
+    for rules in 0..16 {
+        mark_more(marks.as_mut_slice(), each, rules);
     }
-    at(marks, wanted as usize).wrapping_sub(1)
+    Ok(marks.get(wanted as usize).copied().flatten())
 }
 
-// A yard's dialogue, and memory for trying every list.
-#[derive(Drop)]
-struct Tried {
-    found: Found,
-    each: Vec<u64>,
-    marks: Vec<u64>,
-}
-
-impl Tried {
-    fn new(heap: Global) -> Result<Tried, AllocError> {
-        Ok(Tried {
-            found: Found::new(heap)?,
-            each: Vec::new(heap),
-            marks: vec![in heap; 0u64; 65536]?,
-        })
-    }
-
-    fn check_least(
-        &mut self,
-        rt: &impl Abort,
-        n: u32,
-        draw: &mut Draw,
-        note: &str,
-    ) -> Result<(), Fail> {
-        self.found.hold(n, draw, note)?;
-        respecting_each(n, self.found.yard.as_slice(), &mut self.each)?;
-        let all = everything(sets(n));
-        let least = shortest(self.marks.as_mut_slice(), self.each.as_slice(), all);
-        assert_eq!(rt; at(self.found.row.as_slice(), 1), least, "{note}");
+impl Found {
+    // A dialogue about the yard confirms as many rules as the shortest list has.
+    fn check_least(&mut self, rt: &(impl Abort + AllocGlobal)) -> Result<(), Fail> {
+        self.hold()?;
+        let yard = Yard {
+            n: self.n,
+            objects: self.objects.as_slice(),
+        };
+        let each = respecting_each(rt.alloc(), yard)?;
+        let least = shortest(rt.alloc(), self.n, each.as_slice())?;
+        let note = self.note.as_str();
+        assert_eq!(rt; Some(at(self.row.as_slice(), 1)), least, "{note}");
         Ok(())
     }
 
     // Each number below 2^2^n stands for a yard of the sets whose bits it has.
-    fn number_yard(&mut self, n: u32, number: u64) -> Result<(), AllocError> {
-        self.found.yard.clear();
-        for s in 0..sets(n) {
+    fn number_yard(&mut self, number: u64) -> Result<(), AllocError> {
+        self.objects.clear();
+        for s in 0..sets(self.n) {
             if is_within(power(s), number) {
-                self.found.yard.push(u64::from(s))?;
+                self.objects.push(u64::from(s))?;
             }
         }
         Ok(())
     }
 
-    fn check_every_yard(
-        &mut self,
-        rt: &impl Abort,
-        heap: Global,
-        n: u32,
-        draw: &mut Draw,
-    ) -> Result<(), Fail> {
+    fn check_every_yard(&mut self, rt: &(impl Abort + AllocGlobal), n: u32) -> Result<(), Fail> {
+        self.n = n;
         for number in 0..power(sets(n)) {
-            self.number_yard(n, number)?;
-            let note = format!(in heap; "n {n}, yard {number}")?;
-            self.check_least(rt, n, draw, note.as_str())?;
+            self.number_yard(number)?;
+            self.note = format!(in rt.alloc(); "n {n}, yard {number}")?;
+            self.check_least(rt)?;
         }
         Ok(())
     }
 
-    fn check_some_yards(
-        &mut self,
-        rt: &impl Abort,
-        heap: Global,
-        n: u32,
-        draw: &mut Draw,
-    ) -> Result<(), Fail> {
+    fn check_some_yards(&mut self, rt: &(impl Abort + AllocGlobal), n: u32) -> Result<(), Fail> {
+        self.n = n;
         for count in 0..12 {
             for chances in 1..8 {
-                self.found.draw_yard(n, count, chances, draw)?;
-                let note = format!(in heap; "{count} objects, {chances} chances")?;
-                self.check_least(rt, n, draw, note.as_str())?;
+                self.draw_objects(count, chances)?;
+                self.note = format!(in rt.alloc(); "{count} objects, {chances} chances")?;
+                self.check_least(rt)?;
             }
         }
         Ok(())
@@ -149,10 +116,9 @@ impl Tried {
 
 #[test]
 fn no_shorter_list(rt: HostRuntime) -> Result<(), Fail> {
-    let mut tried = Tried::new(rt.alloc())?;
-    let mut draw = Draw { state: 1 };
+    let mut found = Found::new(rt.alloc())?;
     for n in 0..4 {
-        tried.check_every_yard(&rt, rt.alloc(), n, &mut draw)?;
+        found.check_every_yard(&rt, n)?;
     }
-    tried.check_some_yards(&rt, rt.alloc(), 4, &mut draw)
+    found.check_some_yards(&rt, 4)
 }

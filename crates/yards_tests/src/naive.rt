@@ -1,9 +1,9 @@
 // The definitions, computed in the plainest way and with nothing of the library. A set is a number in which 2^c stands for attribute c, and a
 // list of rules has two numbers for each rule.
-use std::alloc::AllocError;
+use std::alloc::{AllocError, Global};
 
 // What has all attributes of the premise has all attributes of the conclusion.
-#[derive(Clone, Copy)]
+#[derive(Clone, Copy, Debug, PartialEq, Eq)]
 pub struct Rule {
     pub premise: u64,
     pub conclusion: u64,
@@ -16,12 +16,7 @@ impl Rule {
 
     // Whether all objects respect it.
     pub fn holds(self, objects: &[u64]) -> bool {
-        for object in objects {
-            if !self.is_respected_by(*object) {
-                return false;
-            }
-        }
-        true
+        objects.iter().all(|object| self.is_respected_by(*object))
     }
 }
 
@@ -45,78 +40,85 @@ pub fn lectic(n: u32, place: u64) -> u64 {
     place.reverse_bits().wrapping_shr(64u32.wrapping_sub(n))
 }
 
-// What all objects with the attributes of s have in common; everything if there is no such object.
-pub fn shared(n: u32, objects: &[u64], s: u64) -> u64 {
-    let mut all = everything(n);
-    for object in objects {
-        if is_within(s, *object) {
-            all &= *object;
-        }
-    }
-    all
+// Objects, each with some of n attributes.
+#[derive(Clone, Copy)]
+pub struct Yard<'a> {
+    pub n: u32,
+    pub objects: &'a [u64],
 }
 
-// The place of the first rule that a set breaks.
-pub fn first_broken(rules: &[u64], s: u64) -> Option<usize> {
-    let mut place = 0usize;
-    for pair in rules.chunks_exact(2) {
-        let rule = Rule {
-            premise: pair[0],
-            conclusion: pair[1],
-        };
-        if !rule.is_respected_by(s) {
-            return Some(place);
-        }
-        place = place.saturating_add(1);
+impl Yard<'_> {
+    // What all objects with the attributes of s have in common; everything if there is no such object.
+    pub fn shared(self, s: u64) -> u64 {
+        let with_s = self.objects.iter().filter(|object| is_within(s, **object));
+        with_s.fold(everything(self.n), |all, object| all & object)
     }
-    None
-}
 
-// Whether each set of n attributes that respects the rules respects this one.
-pub fn follows(n: u32, rules: &[u64], rule: Rule) -> bool {
-    for s in 0..power(n) {
-        if !rule.is_respected_by(s) && first_broken(rules, s).is_none() {
-            return false;
+    // The Duquenne-Guigues base: for each pseudo-intent the rule from it to its closure, in lectic order. A pseudo-intent is a set that is not
+    // closed and contains the closure of each pseudo-intent properly within it. Those come before it in lectic order, so one pass finds all.
+    pub fn stem_base(self, heap: Global) -> Result<Vec<u64>, AllocError> {
+        let mut base = Vec::new(heap);
+        for place in 0..power(self.n) {
+            let s = lectic(self.n, place);
+            let closure = self.shared(s);
+            if closure != s && contains_closures(base.as_slice(), s) {
+                base.extend_from_slice(&[s, closure])?;
+            }
         }
+        Ok(base)
     }
-    true
 }
 
 // Whether a set contains the closure of each pseudo-intent properly within it. The base has the pseudo-intents, each with its closure.
 fn contains_closures(base: &[u64], s: u64) -> bool {
-    for pair in base.chunks_exact(2) {
-        if is_within(pair[0], s) && pair[0] != s && !is_within(pair[1], s) {
-            return false;
-        }
-    }
-    true
+    let (base, _) = base.as_chunks::<2>();
+    base.iter().all(|&[pseudo, closure]| {
+        !is_within(pseudo, s) || pseudo == s || is_within(closure, s)
+    })
 }
 
-// The Duquenne-Guigues base: for each pseudo-intent the rule from it to its closure, in lectic order. A pseudo-intent is a set that is not
-// closed and contains the closure of each pseudo-intent properly within it. Those come before it in lectic order, so one pass finds all.
-pub fn stem_base(n: u32, objects: &[u64], base: &mut Vec<u64>) -> Result<(), AllocError> {
-    base.clear();
-    for place in 0..power(n) {
-        let s = lectic(n, place);
-        let closure = shared(n, objects, s);
-        if closure != s && contains_closures(base.as_slice(), s) {
-            base.extend_from_slice(&[s, closure])?;
-        }
-    }
-    Ok(())
+// What a dialogue about n attributes knows: the rules that were confirmed, and the objects that were named.
+#[derive(Clone, Copy)]
+pub struct Known<'a> {
+    pub n: u32,
+    pub rules: &'a [u64],
+    pub examples: &'a [u64],
 }
 
-// What is asked: about the lectically first set that respects the rules and lacks an attribute that the examples with it have in common.
-pub fn asked(n: u32, rules: &[u64], examples: &[u64]) -> Option<Rule> {
-    for place in 0..power(n) {
-        let premise = lectic(n, place);
-        let conclusion = shared(n, examples, premise);
-        if !is_within(conclusion, premise) && first_broken(rules, premise).is_none() {
-            return Some(Rule {
+impl Known<'_> {
+    // The place of the first rule that a set breaks.
+    pub fn first_broken(self, s: u64) -> Option<usize> {
+        let (rules, _) = self.rules.as_chunks::<2>();
+        rules.iter().position(|&[premise, conclusion]| {
+            let rule = Rule {
                 premise,
                 conclusion,
-            });
-        }
+            };
+            !rule.is_respected_by(s)
+        })
     }
-    None
+
+    // Whether each set that respects the rules respects this one.
+    pub fn follows(self, rule: Rule) -> bool {
+        (0..power(self.n)).all(|s| rule.is_respected_by(s) || self.first_broken(s).is_some())
+    }
+
+    // What is asked: about the lectically first set that respects the rules and lacks an attribute that the examples with it have in common.
+    pub fn asked(self) -> Option<Rule> {
+        let examples = Yard {
+            n: self.n,
+            objects: self.examples,
+        };
+        (0..power(self.n))
+            .map(|place| {
+                let premise = lectic(self.n, place);
+                let conclusion = examples.shared(premise);
+                Rule {
+                    premise,
+                    conclusion,
+                }
+            })
+            .find(|rule| !is_within(rule.conclusion, rule.premise)
+                && self.first_broken(rule.premise).is_none())
+    }
 }

@@ -1,4 +1,5 @@
 // Lent rows, read and written by their layout.
+use crate::naive::Known;
 
 // Where the implications and the examples of a dialogue's row begin, behind n and the two counts.
 pub const RULES: usize = 3;
@@ -21,10 +22,11 @@ pub fn part(row: &[u64], place: usize, count: usize) -> &[u64] {
     row.get(place..place.saturating_add(count)).unwrap_or(&[])
 }
 
-pub fn confirmed_in(row: &[u64]) -> &[u64] {
-    part(row, RULES, (at(row, 1) as usize).saturating_mul(2))
-}
-
-pub fn examples_in(row: &[u64]) -> &[u64] {
-    part(row, EXAMPLES, at(row, 2) as usize)
+// What the row of a dialogue knows.
+pub fn known_in(row: &[u64]) -> Known<'_> {
+    Known {
+        n: u32::try_from(at(row, 0)).unwrap_or(0),
+        rules: part(row, RULES, (at(row, 1) as usize).saturating_mul(2)),
+        examples: part(row, EXAMPLES, at(row, 2) as usize),
+    }
 }

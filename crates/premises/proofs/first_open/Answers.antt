@@ -7,12 +7,9 @@ use Rattle.premises.specs.Open.{first_open_from}
 use Rattle.premises.proofs.From.{from_empty}
 use Rattle.premises.proofs.first_open.Goals as goal
 
-pub returns : goal.returns
-returns g c =
-    let n : ℕ = c.args.n.value in
+pub returns-clause-value : goal.returns-clause-value
+returns-clause-value g c =
+    let n : ℕ = g.F.Forces.width c.args.forces.now in
+    let forced : Set → Set = g.F.Forces.forced c.args.forces.now in
     let is : List Implication = implications_in n c.args.confirmed.now in
-    let forced : Set → Set = g.F.Forces.forced c.args.forces.now n in
-    record {
-      value = c.first_open_from.ensures.value ∙ ap (λ (m : ℕ). first_open_from n forced is (set_in n m)) c.empty.ensures ∙ from_empty n forced is;
-      bound = c.first_open_from.ensures.bound;
-    }
+    c.first_open_from.ensures.value ∙ ap (λ (m : ℕ). first_open_from n forced is (set_in n m)) c.empty.ensures ∙ from_empty n forced is

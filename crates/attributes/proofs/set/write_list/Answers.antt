@@ -1,17 +1,25 @@
-use Rattle.std.proofs.Common.{refl, arith}
+use Rattle.std.proofs.Common.{◌≡◌, ◌^◌, ◌<◌, ◌≤◌, true, length, refl, sym, ◌∙◌, rules, arith}
+use Rattle.attributes.specs.Numbers.{set_in}
+use Rattle.attributes.specs.Sets.{Set, has}
+use Rattle.attributes.proofs.Numbers.{length_set_in}
 use Rattle.attributes.proofs.Text.{so_far_in, so_far_out, so_far_all}
 use Rattle.attributes.proofs.set.write_list.Goals as goal
-use Rattle.attributes.proofs.set.write_list.Goals.{then-rest-eq1+in_ok-write_next, else-rest-eq1}
+use Rattle.attributes.proofs.set.write_list.Goals.{then-contains+in_ok-write_next, else-contains}
 
 pub loop-attribute-preserved : goal.loop-attribute-preserved
 loop-attribute-preserved g c =
-    elim c.if-rest-eq1.branch [
-      | then-rest-eq1+in_ok-write_next w ↦
-          rw (w.f-is, w.first-is) (so_far_in g.W.Write.write_str_gives c.args.bits c.args.f.now c.loop-attribute.f c.loop-attribute.first c.loop-attribute.attribute c.loop-attribute.rest c.loop-attribute.invariant w.write_next.new.f c.loop-attribute-test.true w.if-rest-eq1.true (λ plain. w.in_ok-write_next.ensures plain refl))
-      | else-rest-eq1 w ↦
-          rw (w.f-is, w.first-is) (so_far_out g.W.Write.write_str_gives c.args.bits c.args.f.now c.loop-attribute.f c.loop-attribute.first c.loop-attribute.attribute c.loop-attribute.rest c.loop-attribute.invariant c.loop-attribute-test.true w.if-rest-eq1.false)
+    let s : Set = set_in 16 c.args.s.bits in
+    let small : c.args.s.bits < 2 ^ 16 = search rules in
+    let there : c.loop-attribute.attribute < length s = omega (arith, length_set_in 16 c.args.s.bits, c.loop-attribute-test.true) in
+    let tested : has s c.loop-attribute.attribute ≡ c.contains.result = sym (c.contains.ensures 16 small) in
+    elim c.if-contains.branch [
+      | then-contains+in_ok-write_next w ↦
+          rw (w.f-is, w.first-is) (so_far_in g.W.Write.write_str_gives s c.args.f.now c.loop-attribute.f c.loop-attribute.first c.loop-attribute.attribute c.loop-attribute.invariant w.write_next.new.f there (tested ∙ w.if-contains.true) (λ plain. w.in_ok-write_next.ensures plain (refl {a = true})))
+      | else-contains w ↦
+          rw (w.f-is, w.first-is) (so_far_out g.W.Write.write_str_gives s c.args.f.now c.loop-attribute.f c.loop-attribute.first c.loop-attribute.attribute c.loop-attribute.invariant there (tested ∙ w.if-contains.false))
     ]
 
 pub returns : goal.returns
 returns g c plain ok =
-    so_far_all g.W.Write.write_str_gives c.args.bits c.args.f.now c.loop-attribute.f c.loop-attribute.first c.loop-attribute.attribute c.loop-attribute.rest c.loop-attribute.invariant (omega arith) plain
+    let all : length (set_in 16 c.args.s.bits) ≤ c.loop-attribute.attribute = omega (arith, length_set_in 16 c.args.s.bits, c.loop-attribute-test.false) in
+    so_far_all g.W.Write.write_str_gives (set_in 16 c.args.s.bits) c.args.f.now c.loop-attribute.f c.loop-attribute.first c.loop-attribute.attribute c.loop-attribute.invariant all plain

@@ -7,8 +7,8 @@ use Rattle.premises.proofs.respecting.least_with.Given as goal
 
 abbrev pub invariant-loop-more : goal.invariant-loop-more
 invariant-loop-more l =
-    (l.reached.bits < 2 ^ l.n.value)
-    × Growing l.n.value (implications_in l.n.value l.implications) (set_in l.n.value l.s.bits) l.attribute (set_in l.n.value l.reached.bits)
+    (l.least.bits < 2 ^ l.list.n.value)
+    × Growing l.list.n.value (implications_in l.list.n.value l.list.numbers.now) (set_in l.list.n.value l.fn.s.bits) l.attribute (set_in l.list.n.value l.least.bits)
 
 abbrev pub decreases-loop-more : goal.decreases-loop-more
-decreases-loop-more l = missing (set_in l.n.value l.reached.bits)
+decreases-loop-more l = missing (set_in l.list.n.value l.least.bits)

@@ -12,29 +12,27 @@ use Rattle.premises.proofs.Stepping.{NoneFrom, next_none, next_found}
 use Rattle.premises.proofs.respecting.next_respecting.Goals as goal
 
 -- a search that found something found the next set
-found_some : (n : ℕ) (is : List Implication) (s : Set) (a : ℕ) → length s ≡ n → NoneFrom n is s (suc a) → has s a ≡ false → (r : Option AttributeSet) → is_some r ≡ true
-    → MatchOption r ((t : Set) → NextBranch n is s a t → ⊥) (λ (m : AttributeSet). LeastInBranch n is s a (set_in n m.bits)) → option_map (λ (q : AttributeSet). set_in n q.bits) r ≡ next_respecting n is s
+found_some : (n : ℕ) (is : List Implication) (s : Set) (a : ℕ) → length s ≡ n → NoneFrom n is s (suc a) → has s a ≡ false
+    → (r : Option AttributeSet) → is_some r ≡ true → MatchOption r ((t : Set) → NextBranch n is s a t → ⊥) (λ (m : AttributeSet). LeastInBranch n is s a (set_in n m.bits))
+    → option_map (λ (q : AttributeSet). set_in n q.bits) r ≡ next_respecting n is s
 found_some n is s a w later lacks None e h = absurd (true≢false (sym e))
 found_some n is s a w later lacks (Some m) e h = next_found n is s w a (set_in n m.bits) h lacks later
 
-pub returns-then-is_some : goal.returns-then-is_some
-returns-then-is_some c =
-    let n : ℕ = c.args.n.value in
-    let is : List Implication = implications_in n c.args.implications.now in
+pub returns-then-is_some-clause-value : goal.returns-then-is_some-clause-value
+returns-then-is_some-clause-value c =
+    let n : ℕ = c.args.list.now.n.value in
+    let is : List Implication = implications_in n c.args.list.now.numbers.now in
     let s : Set = set_in n c.args.s.bits in
     let a : ℕ = c.loop-attribute.attribute in
     let at : a ≡ suc (a - 1) = omega (arith, c.loop-attribute-test.true) in
-    record {
-      value =
-          found_some n is s (a - 1) (length_set_in n c.args.s.bits) (subst (NoneFrom n is s) at c.loop-attribute.invariant.1)
-          (sym (c.contains.ensures n c.requires) ∙ c.if-not-contains.true) c.least_with-next.result (sym c.is_some.ensures ∙ c.if-is_some.true) c.least_with-next.ensures.value;
-      bound = c.least_with-next.ensures.bound;
-    }
+    found_some n is s (a - 1) (length_set_in n c.args.s.bits) (subst (NoneFrom n is s) at c.loop-attribute.invariant.1)
+    (sym (c.contains.ensures n c.requires) ∙ c.if-not-contains.true)
+    c.least_with-next.result (sym c.is_some.ensures ∙ c.if-is_some.true) c.least_with-next.ensures.value
 
-pub returns : goal.returns
-returns c =
-    let n : ℕ = c.args.n.value in
-    let is : List Implication = implications_in n c.args.implications.now in
+pub returns-clause-value : goal.returns-clause-value
+returns-clause-value c =
+    let n : ℕ = c.args.list.now.n.value in
+    let is : List Implication = implications_in n c.args.list.now.numbers.now in
     let s : Set = set_in n c.args.s.bits in
     let end : c.loop-attribute.attribute ≡ 0 = omega (arith, c.loop-attribute-test.false) in
-    record { value = next_none n is s (length_set_in n c.args.s.bits) (subst (NoneFrom n is s) end c.loop-attribute.invariant.1); bound = tt }
+    next_none n is s (length_set_in n c.args.s.bits) (subst (NoneFrom n is s) end c.loop-attribute.invariant.1)

@@ -6,7 +6,4 @@ use Rattle.premises.proofs.respecting.next_respecting.Given as goal
 
 abbrev pub invariant-loop-attribute : goal.invariant-loop-attribute
 invariant-loop-attribute l =
-    (l.attribute ≤ l.n.value) × NoneFrom l.n.value (implications_in l.n.value l.implications) (set_in l.n.value l.s.bits) l.attribute
-
-abbrev pub decreases-loop-attribute : goal.decreases-loop-attribute
-decreases-loop-attribute l = l.attribute
+    (l.attribute ≤ l.list.n.value) × NoneFrom l.list.n.value (implications_in l.list.n.value l.list.numbers.now) (set_in l.list.n.value l.s.bits) l.attribute
