@@ -62,6 +62,10 @@ set_in_number_of (false ∷ s) =
     let half : (2 * number_of s) / 2 ≡ number_of s = omega arith in
     λ j. ne_eqb ((2 * number_of s) % 2) 1 even j ∷ (ap (set_in (length s)) half ∙ set_in_number_of s) j
 
+-- the same, where n is that length
+pub set_in_back : (n : ℕ) (s : Set) → length s ≡ n → set_in n (number_of s) ≡ s
+set_in_back n s e = ap (λ (k : ℕ). set_in k (number_of s)) (sym e) ∙ set_in_number_of s
+
 -- the first n attributes are those of the remainder
 pub set_in_mod : (n m : ℕ) → set_in n (m % 2 ^ n) ≡ set_in n m
 unfolding set_in

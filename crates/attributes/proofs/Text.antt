@@ -25,31 +25,43 @@ pub written_some : (m : ℕ) → m < 2 ^ 16 → (m ≡ 0 → ⊥) → written (s
 unfolding written
 written_some m h ne = ap (λ (b : Bool). cond b (codes "-") (listed true 0 (set_in 16 m))) (ne_eqb (number_of (set_in 16 m)) 0 (λ e. ne (sym (number_of_set_in 16 m h) ∙ e)))
 
--- what was written of a set's attributes before attribute i, and what is left to write
-abbrev pub SoFar : {W : Type 0} → (W → List ℕ → W → Type 0) → Set → Formatter W → Formatter W → Bool → ℕ → Type 0
-SoFar took s f₀ f first i = (done : List ℕ) × (IsPlainFormatter f₀ → HasWritten took f₀ done f) × (done ++ listed first i (drop i s) ≡ listed true 0 s)
+-- what was written of a set's attributes before attribute i, and what is left to write; between stands before the next one
+abbrev pub SoFar : {W : Type 0} → (W → List ℕ → W → Type 0) → Set → Formatter W → Formatter W → List ℕ → ℕ → Type 0
+SoFar took s f₀ f between i =
+    (first : Bool) × (between ≡ cond first [] (codes " ")) × (done : List ℕ) × (IsPlainFormatter f₀ → HasWritten took f₀ done f) ×
+    (done ++ listed first i (drop i s) ≡ listed true 0 s)
 
-module _ {W : Type 0} (took : W → List ℕ → W → Type 0) (s : Set) (f₀ f : Formatter W) (first : Bool) (i : ℕ) (so_far : SoFar took s f₀ f first i) where
-  pub so_far_in : (g : Formatter W) → i < length s → has s i ≡ true → (IsPlainFormatter f → HasWritten took f (cond first [] (codes " ") ++ decimal i) g) → SoFar took s f₀ g false (i + 1)
+module _ {W : Type 0} (took : W → List ℕ → W → Type 0) (s : Set) (f₀ f : Formatter W) (between : List ℕ) (i : ℕ) (so_far : SoFar took s f₀ f between i) where
+  pub so_far_in : (m g : Formatter W) → i < length s → has s i ≡ true → (IsPlainFormatter f → HasWritten took f between m) →
+      (IsPlainFormatter m → HasWritten took m (decimal i) g) → SoFar took s f₀ g (codes " ") (i + 1)
   unfolding listed
-  so_far_in g h e put =
-      let text : List ℕ = cond first [] (codes " ") ++ decimal i in
+  so_far_in m g h e put_between put =
+      let (first, is, done, before, whole) = so_far in
       let rest : List ℕ = listed false (suc i) (drop (suc i) s) in (
-        so_far.0 ++ text,
-        λ plain. let before = so_far.1 plain in has_written_append took f₀ so_far.0 f text g before (put before.plain),
-        rw add-one (append_assoc so_far.0 text rest ∙ ap (λ (l : List ℕ). so_far.0 ++ l) (append_assoc (cond first [] (codes " ")) (decimal i) rest ∙ sym (left first true i s h e)) ∙ so_far.2),
+        false,
+        refl,
+        (done ++ between) ++ decimal i,
+        λ plain.
+            let old = before plain in
+            let parted = put_between old.plain in
+            has_written_append took f₀ (done ++ between) m (decimal i) g (has_written_append took f₀ done f between m old parted) (put parted.plain),
+        rw add-one (append_assoc (done ++ between) (decimal i) rest ∙ append_assoc done between (decimal i ++ rest) ∙
+            ap (λ (l : List ℕ). done ++ l) (ap (λ (l : List ℕ). l ++ (decimal i ++ rest)) is ∙ sym (left first true i s h e)) ∙ whole),
       )
 
-  pub so_far_out : i < length s → has s i ≡ false → SoFar took s f₀ f first (i + 1)
+  pub so_far_out : i < length s → has s i ≡ false → SoFar took s f₀ f between (i + 1)
   unfolding listed
-  so_far_out h e = (so_far.0, so_far.1, rw add-one (ap (λ (l : List ℕ). so_far.0 ++ l) (sym (left first false i s h e)) ∙ so_far.2))
+  so_far_out h e =
+      let (first, is, done, before, whole) = so_far in
+      (first, is, done, before, rw add-one (ap (λ (l : List ℕ). done ++ l) (sym (left first false i s h e)) ∙ whole))
 
   pub so_far_all : length s ≤ i → IsPlainFormatter f₀ → HasWritten took f₀ (listed true 0 s) f
   unfolding listed
   so_far_all h plain =
-      has_written_of_eq took f₀ so_far.0 (listed true 0 s) f
-      (sym (append-nil so_far.0) ∙ ap (λ (l : Set). so_far.0 ++ listed first i l) (sym (drop_all i s h)) ∙ so_far.2)
-      (so_far.1 plain)
+      let (first, is, done, before, whole) = so_far in
+      has_written_of_eq took f₀ done (listed true 0 s) f
+      (sym (append-nil done) ∙ ap (λ (l : Set). done ++ listed first i l) (sym (drop_all i s h)) ∙ whole)
+      (before plain)
 
 -- attributes past those that a number has add nothing to the text
 listed_none : (w c : ℕ) (first : Bool) → listed first c (set_in w 0) ≡ []

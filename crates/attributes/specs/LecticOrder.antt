@@ -1,4 +1,5 @@
--- The lectic order of two numbers that stand for sets, and its laws, which the comparison of sets in the code owes.
+-- The lectic order of two numbers that stand for sets, and its laws, which the comparison of sets in the code owes. The laws are proved here, since
+-- of its own crate the code may cite only what stands in `specs/`.
 use Rattle.std.specs.Prelude.{◌≡◌, ℕ, zero, suc, ◌+◌, ◌/◌, ◌%◌, ◌^◌, ◌<◌, ◌≤◌, true, false, refl, nat_eq, slice_index_or, drop}
 use Rattle.std.proofs.Common.{sym, ap, ◌∙◌, pow-suc, pow_mono, lt_of_lt_of_le, eqb, arith}
 use Rattle.std.specs.declared.cmp.Ordering.{Ordering}

@@ -5,10 +5,10 @@ ghost use Rattle.std.specs.Prelude.{◌≡◌, ◌^◌, ◌<◌, ◌≤◌, Matc
 pub const MOST_ATTRIBUTES: u64 = 12;
 
 // The number of attributes of a context.
-#[derive(Clone, Copy)]
+#[derive(Clone, Copy, PartialEq, Eq, Debug)]
 pub struct AttributeCount {
-    value: u8,
-    ghost few: { value ≤ 12 },
+    pub value: u8,
+    pub ghost few: { value ≤ 12 },
 }
 
 // A number of attributes that no context has.
@@ -29,6 +29,7 @@ impl TryFrom<u64> for AttributeCount {
 }
 
 impl AttributeCount {
+    // Its name is that of the standard library's counts that cannot be 0.
     pub fn get(self) -> u8
         ensures value { result ≡ self.value }
         ensures few { result ≤ 12 }

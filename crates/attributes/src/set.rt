@@ -1,5 +1,5 @@
 // An attribute set.
-ghost use Rattle.std.specs.Prelude.{◌≡◌, ℕ, ◌^◌, ◌<◌, ◌≤◌, true, not, [], ◌++◌, set, if◌then◌else◌, Some, codes, decimal, MatchOption, slice_set, refl};
+ghost use Rattle.std.specs.Prelude.{◌≡◌, ℕ, ◌^◌, ◌<◌, ◌≤◌, true, not, set, Some, decimal, MatchOption, slice_set, refl};
 ghost use Rattle.std.specs.Cmp.{on_po, on_total};
 ghost use Rattle.std.specs.Ordering.{as_partial_cmp, on};
 ghost use Rattle.std.specs.Fmt.{WritesOnOk};
@@ -16,7 +16,7 @@ use std::fmt;
 // bound its bits by that number: each function of two sets would have to ask of its callers that both carry the same.
 #[derive(Clone, Copy, PartialEq, Eq, Debug)]
 pub struct AttributeSet {
-    bits: u16,
+    pub bits: u16,
 }
 
 impl AttributeSet {
@@ -58,7 +58,7 @@ impl AttributeSet {
         }
     }
 
-    // What a number of a row says of the attributes 0 to 15.
+    // What a number of a row says of the attributes 0 to 15. It stands beside `lowest` for the innermost loop, where its mask costs nothing.
     pub fn of_number(number: u64) -> AttributeSet
         ensures { (n : ℕ) → n ≤ 16 → set_in n result.bits ≡ set_in n number }
     {
@@ -210,24 +210,15 @@ impl fmt::Display for AttributeSet {
 fn write_list<W: fmt::Write>(s: AttributeSet, f: &mut fmt::Formatter<W>) -> fmt::Result
     ensures { WritesOnOk W.write_str_gives f.old result (listed true 0 (set_in 16 s.bits)) f.new }
 {
-    let mut first = true;
+    let mut between = "";
     for attribute in 0..16u8 {
         if s.contains(attribute) {
-            write_next(first, attribute, f)?;
-            first = false;
+            f.write_str(between)?;
+            f.write_str(digits(attribute))?;
+            between = " ";
         }
     }
     Ok(())
-}
-
-fn write_next<W: fmt::Write>(first: bool, attribute: u8, f: &mut fmt::Formatter<W>) -> fmt::Result
-    requires { attribute < 16 }
-    ensures { WritesOnOk W.write_str_gives f.old result ((if first then [] else codes " ") ++ decimal attribute) f.new }
-{
-    if !first {
-        f.write_str(" ")?;
-    }
-    f.write_str(digits(attribute))
 }
 
 // The digits of each attribute's number: written out, since formatting a number costs more than all else that the programs do.

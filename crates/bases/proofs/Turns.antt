@@ -5,9 +5,9 @@ use Rattle.std.specs.List.{AllByRecursion}
 use Rattle.std.proofs.lemmas.List.{drop_more, length_push, set_at, take_at}
 use Rattle.std.proofs.lemmas.List.Concat.{flat_map-append}
 use Rattle.std.proofs.lemmas.Option.{none-some, same_Some}
-use Rattle.attributes.specs.Numbers.{set_in, number_of}
+use Rattle.attributes.specs.Numbers.{set_in}
 use Rattle.attributes.specs.Sets.{Set}
-use Rattle.attributes.proofs.Numbers.{number_of_set_in, set_in_number_of}
+use Rattle.attributes.proofs.Numbers.{number_of_set_in, set_in_back}
 use Rattle.contexts.specs.Contexts.{Context, OfWidth, Implication, common}
 use Rattle.contexts.specs.Values.{implication_at}
 use Rattle.contexts.specs.declared.implication.Implication.{Implication as Pair}
@@ -26,14 +26,11 @@ pub length_numbers : (is : List Implication) → length (numbers_of is) ≡ 2 * 
 length_numbers [] = refl
 length_numbers (i ∷ is) = omega (arith, length_numbers is)
 
-same_set : (n : ℕ) (s : Set) → length s ≡ n → set_in n (number_of s) ≡ s
-same_set n s e = ap (λ (k : ℕ). set_in k (number_of s)) (sym e) ∙ set_in_number_of s
-
 -- a list is read back from its numbers
 pub numbers_back : (n : ℕ) (is : List Implication) → AllByRecursion (Over n) is → implications_in n (numbers_of is) ≡ is
 unfolding implications_in
 numbers_back n [] over = refl
-numbers_back n (i ∷ is) over = λ j. record { premise = same_set n i.premise over.0.0 j; conclusion = same_set n i.conclusion over.0.1 j } ∷ numbers_back n is over.1 j
+numbers_back n (i ∷ is) over = λ j. record { premise = set_in_back n i.premise over.0.0 j; conclusion = set_in_back n i.conclusion over.0.1 j } ∷ numbers_back n is over.1 j
 
 -- two numbers written behind others
 two_more : (xs before : List ℕ) (k p c : ℕ) → length xs ≡ 2 * k → 2 * k + 2 ≤ length before

@@ -2,8 +2,8 @@
 ghost use Rattle.std.specs.Prelude.{◌≤◌, refl};
 ghost use Rattle.contexts.proofs.Walks.{objects_width};
 ghost use Rattle.contexts.specs.Contexts.{Context as Objects};
-ghost use Rattle.contexts.specs.Values.{objects_in};
-ghost use Rattle.implications.specs.Values.{implications_in};
+ghost use Rattle.contexts.specs.Objects.{objects_of};
+ghost use Rattle.implications.specs.Lists.{said_by};
 ghost use Rattle.premises.proofs.Closures.{respecting_width};
 ghost use Rattle.premises.specs.Forced.{respecting};
 ghost use Rattle.bases.specs.Bases.{CommonTo};
@@ -25,7 +25,7 @@ pub trait HasContext: Forces {
 }
 
 impl HasContext for Context<'_> {
-    ghost objects = { λ t. objects_in t.n.value t.objects.now };
+    ghost objects = { λ t. objects_of t };
 
     ghost common = { λ t. (objects_width t.n.value t.objects.now, refl) };
 
@@ -34,9 +34,9 @@ impl HasContext for Context<'_> {
 
 // The sets that respect a list have in common with a set's attributes its closure.
 impl HasContext for Implications<'_> {
-    ghost objects = { λ l. respecting l.n.value (implications_in l.n.value l.numbers.now) };
+    ghost objects = { λ l. respecting l.n.value (said_by l) };
 
-    ghost common = { λ l. (respecting_width l.n.value (implications_in l.n.value l.numbers.now), refl) };
+    ghost common = { λ l. (respecting_width l.n.value (said_by l), refl) };
 
     ghost few = { λ l. l.n.few };
 }

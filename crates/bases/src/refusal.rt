@@ -16,7 +16,7 @@ pub enum Refusal {
 }
 
 impl Refusal {
-    // The number by which the refusal is told.
+    // The number by which the refusal is told: a rule of the project, like the place.
     pub fn number(self) -> u64
         ensures { result ≡ refusal_number self }
     {

@@ -48,10 +48,10 @@ fn sound_rows(n: AttributeCount, rows: &[u64], width: usize) -> usize
     ensures value { result ≡ min (sound_front (2 ^ n.value) rows.now / width) 4096 }
     ensures inside { width * result ≤ length rows.now }
 {
-    (sound_front(1u64 << n.get(), rows) / width).min(MOST_ROWS)
+    (sound_front(n.limit(), rows) / width).min(MOST_ROWS)
 }
 
-// How many numbers at the front are below a limit.
+// How many numbers at the front are below a limit. The exploration seeks the first that is not: one line in each crate.
 fn sound_front(limit: u64, numbers: &[u64]) -> usize
     ensures value { result ≡ sound_front limit numbers.now }
     ensures inside { result ≤ length numbers.now }

@@ -49,7 +49,8 @@ fn run(rt: &HostRuntime) -> anyhow::Result<()> {
     Ok(())
 }
 
-// How many implications the base of a list has; none, and the refusal is printed, if the list is refused.
+// How many implications the base of a list has; none, and the refusal is printed, if the list is refused. A refusal handed out would have to be printed
+// by the caller, once for each list.
 fn needed(rt: &HostRuntime, name: &str, list: &[u64]) -> anyhow::Result<Option<usize>> {
     let mut base = vec![in rt.alloc(); 0u64; BASE_LENGTH]?;
     match base_of_list(list, base.as_mut_slice()) {

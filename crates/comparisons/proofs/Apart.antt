@@ -18,6 +18,7 @@ use Rattle.implications.specs.Values.{implications_in}
 use Rattle.implications.proofs.Respects.{one_set_decides}
 use Rattle.premises.specs.Laws.{IsFirst}
 use Rattle.comparisons.specs.Compared.{tells_apart}
+use Rattle.implications.proofs.Turns.{turn as next_turn, ended}
 
 -- on the way from the premise to its closure: what is reached is inside each set that has the premise and respects the list
 pub record Reaching (n : ℕ) (is : List Implication) (i : Implication) (r : Set) : Type 0 where
@@ -83,12 +84,12 @@ begins is place i rest e =
 module _ {n : ℕ} {one other : List Implication} {place m : ℕ} {rest : List ℕ} (turn : Turn n one other place m rest) {m' : ℕ} {rest' : List ℕ} where
   pub turn_end : NextImplication m rest None m' rest' → AllByRecursion (Follows n other) one
   turn_end next =
-      let none : implications_in n rest ≡ [] = subst (λ (k : ℕ). implications_in k rest ≡ []) turn.width next.found in
+      let none : implications_in n rest ≡ [] = ended m n m' rest rest' turn.width next in
       All-from_get_or (Follows n other) one no_implication (λ j h. turn.before j (omega (arith, ap length (sym none ∙ turn.left), length-drop place one)))
 
   module _ {i : Pair} (next : NextImplication m rest (Some i) m' rest') where
     pub turn_first : HasFirst n rest i rest'
-    turn_first = subst (λ (k : ℕ). HasFirst k rest i rest') turn.width next.found
+    turn_first = (next_turn m n m' rest rest' i turn.width next).1
 
     pub turn_at : (place < length one) × (implication_at n i ≡ get_or one place no_implication) × (implications_in n rest' ≡ drop (place + 1) one)
     turn_at = begins one place (implication_at n i) (implications_in n rest') (sym turn_first.first ∙ turn.left)

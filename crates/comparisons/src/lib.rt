@@ -62,7 +62,7 @@ impl fmt::Display for Comparison {
     }
 }
 
-// Compares two lists of implications, two numbers each.
+// Compares two lists of implications, two numbers each. n stands once for both: two values of `Implications` could differ in it.
 #[tactic(auto, using(crate::proofs::Closed::same_closed, crate::proofs::Closed::differs_there, crate::proofs::Closed::differs_back))]
 pub fn compare(n: AttributeCount, one: &[u64], other: &[u64]) -> Comparison
     ensures told { Compared n.value (implications_in n.value one.now) (implications_in n.value other.now) result }
@@ -80,7 +80,8 @@ pub fn compare(n: AttributeCount, one: &[u64], other: &[u64]) -> Comparison
 }
 
 // The first implication of one list that does not follow from the other. The sets reached from its premise grow towards its closure: once the
-// conclusion is inside it follows, and if the closure lacks it the closure is the witness, since every other one contains it.
+// conclusion is inside it follows, and if the closure lacks it the closure is the witness, since every other one contains it. Nested loops that are
+// left by their label are a rule of the project.
 pub fn first_difference(n: AttributeCount, one: &[u64], other: &[u64]) -> Option<Difference>
     ensures { MatchOption result (AllByRecursion (Follows n.value (implications_in n.value other.now)) (implications_in n.value one.now)) (Differs n.value (implications_in n.value one.now) (implications_in n.value other.now)) }
 {

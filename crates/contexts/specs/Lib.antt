@@ -1,4 +1,5 @@
 pub mod Contexts
 pub mod Laws
+pub mod Objects
 pub mod Places
 pub mod Values

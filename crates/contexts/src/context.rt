@@ -16,10 +16,12 @@ pub struct Context<'a> {
 }
 
 impl Context<'_> {
+    ghost use Rattle.contexts.specs.Objects.{objects_of};
+
     // The attributes that all objects with the attributes of s have in common; all n if there is no such object. Once s alone is left no object
     // can take more away. The last object goes first: in an exploration it was named last, and tends to have what is asked about next.
     pub fn common(&self, s: AttributeSet) -> AttributeSet
-        ensures value { set_in self.now.n.value result.bits ≡ common self.now.n.value (objects_in self.now.n.value self.now.objects.now) (set_in self.now.n.value s.bits) }
+        ensures value { set_in self.now.n.value result.bits ≡ common self.now.n.value (objects_of self.now) (set_in self.now.n.value s.bits) }
         ensures bound { result.bits < 2 ^ self.now.n.value }
     {
         let asked = s.within(self.n);
@@ -37,7 +39,7 @@ impl Context<'_> {
 
     // The place of the first object that breaks an implication.
     pub fn first_counterexample(&self, implication: Implication) -> Option<usize>
-        ensures { MatchOption result (holds (objects_in self.now.n.value self.now.objects.now) (implication_at self.now.n.value implication) ≡ true) (FirstBreaking (objects_in self.now.n.value self.now.objects.now) (implication_at self.now.n.value implication)) }
+        ensures { MatchOption result (holds (objects_of self.now) (implication_at self.now.n.value implication) ≡ true) (FirstBreaking (objects_of self.now) (implication_at self.now.n.value implication)) }
     {
         let asked = implication.within(self.n);
         self.objects.iter().position(|number| {
@@ -48,7 +50,7 @@ impl Context<'_> {
 
     // Whether all objects respect an implication.
     pub fn holds(&self, implication: Implication) -> bool
-        ensures { result ≡ holds (objects_in self.now.n.value self.now.objects.now) (implication_at self.now.n.value implication) }
+        ensures { result ≡ holds (objects_of self.now) (implication_at self.now.n.value implication) }
     {
         self.first_counterexample(implication).is_none()
     }
@@ -56,7 +58,7 @@ impl Context<'_> {
 
 // The place of the last object before `end` that has all attributes of a set. It counts by hand, two objects to a turn, since it is the innermost loop
 // of all: with a `for` over the reversed objects, or with slices cut from the back, `stembase` takes up to 1.62 times the instructions of the plain
-// program, where 1.5 is the bar, and so 1.31.
+// program, where 1.5 is the bar, and so 1.34.
 fn last_with(objects: &[u64], end: usize, s: AttributeSet) -> Option<usize>
     requires { end ≤ length objects.now }
     ensures { (n : ℕ) → n ≤ 16 → s.bits < 2 ^ n → MatchOption result (NoneWith (objects_in n objects.now) (set_in n s.bits) 0 end) (LastWith (objects_in n objects.now) (set_in n s.bits) end) }

@@ -9,7 +9,7 @@ ghost use Rattle.contexts.specs.Values.{implication_at};
 use attributes::{AttributeCount, AttributeSet};
 use std::fmt;
 
-// What has all attributes of the premise has all attributes of the conclusion.
+// What has all attributes of the premise has all attributes of the conclusion. Like a set it does not carry how many attributes there are.
 #[derive(Clone, Copy, PartialEq, Eq, Debug)]
 pub struct Implication {
     pub premise: AttributeSet,

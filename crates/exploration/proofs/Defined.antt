@@ -7,14 +7,14 @@ use Rattle.attributes.specs.Sets.{Set}
 use Rattle.attributes.specs.declared.set.AttributeSet.{AttributeSet}
 use Rattle.attributes.proofs.Numbers.{length_set_in, number_of_set_in}
 use Rattle.contexts.specs.Contexts.{Implication, respects}
-use Rattle.contexts.specs.Values.{implication_at}
+use Rattle.contexts.specs.Values.{implication_at, pair_of}
 use Rattle.contexts.proofs.Walks.{objects_width}
 use Rattle.implications.specs.Implications.{respects_all}
 use Rattle.std.proofs.lemmas.Option.{none-some}
 use Rattle.exploration.specs.Answers.{checked_answer, checked_object, counts_in, judged, judged_given, judged_row, named_if_room, row_after}
 use Rattle.dialogues.specs.Dialogue.{Knowledge, Answer, question, taken, with_answer, after}
 use Rattle.dialogues.specs.Promise.{Room}
-use Rattle.exploration.specs.Row.{attribute_fault, attributes_in, checked_row, example_part, fault_or, known_in, pair_of, row_fault}
+use Rattle.exploration.specs.Row.{attribute_fault, attributes_in, checked_row, example_part, fault_or, known_in, row_fault}
 use Rattle.exploration.specs.Turns.{AnswersAsDefined, AsDefined, answer_of, code}
 use Rattle.exploration.specs.declared.answer.Answer.{Answer as Given}
 use Rattle.exploration.specs.declared.answer.Answer.TheVariants.{Always, Object}

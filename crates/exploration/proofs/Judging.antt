@@ -2,13 +2,13 @@
 use Rattle.std.proofs.Common.{◌≡◌, ℕ, List, is_some, Ok, Err, Option, Result, sym, ap, ◌∙◌, subst}
 use Rattle.std.specs.Option.{option_map}
 use Rattle.attributes.specs.Numbers.{set_in}
-use Rattle.contexts.specs.Values.{implication_at}
+use Rattle.contexts.specs.Values.{implication_at, pair_of}
 use Rattle.contexts.specs.declared.implication.Implication.{Implication as Pair}
 use Rattle.contexts.proofs.Walks.{objects_width}
 use Rattle.implications.specs.Values.{implications_in}
 use Rattle.dialogues.specs.Dialogue.{Knowledge, question, question_from}
 use Rattle.exploration.specs.Answers.{RoomFor, checked_answer, counts_in, judged_given, raised, judged_row, premise_of, row_after, unless_fault, written, StepBounded}
-use Rattle.exploration.specs.Row.{Bounded, asked_in, attribute_fault, attributes_in, checked_row, example_part, fault_or, implication_part, known_in, known_of, pair_of}
+use Rattle.exploration.specs.Row.{Bounded, asked_in, attribute_fault, attributes_in, checked_row, example_part, fault_or, implication_part, known_in, known_of}
 use Rattle.exploration.specs.Standings.{Stands}
 use Rattle.replies.specs.declared.turn.Step.{Step}
 use Rattle.replies.specs.declared.reply.Refusal.{Refusal}

@@ -10,14 +10,14 @@ use Rattle.attributes.proofs.Numbers.{length_set_in, set_in_number_of}
 use Rattle.attributes.proofs.Sets.{subset_refl}
 use Rattle.contexts.specs.Contexts.{Context, OfWidth, Implication, common}
 use Rattle.contexts.proofs.CommonAttributes.{common_fewer}
-use Rattle.contexts.specs.Values.{implication_at}
+use Rattle.contexts.specs.Values.{implication_at, pair_of}
 use Rattle.contexts.specs.declared.implication.Implication.{Implication as Pair}
 use Rattle.premises.specs.Open.{first, first_open, is_open}
 use Rattle.premises.proofs.First.{first_laws}
 use Rattle.premises.proofs.From.{begin_at}
 use Rattle.exploration.specs.Answers.{premise_of}
 use Rattle.dialogues.specs.Dialogue.{Knowledge, about, question, question_from}
-use Rattle.exploration.specs.Row.{Bounded, pair_of}
+use Rattle.exploration.specs.Row.{Bounded}
 use Rattle.replies.specs.declared.turn.Step.{Step}
 use Rattle.replies.specs.declared.turn.Step.TheVariants.{Confirm, Name}
 use Rattle.exploration.proofs.Replies.{paired}

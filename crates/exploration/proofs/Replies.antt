@@ -4,11 +4,11 @@ use Rattle.std.specs.Option.{option_map}
 use Rattle.attributes.specs.Numbers.{set_in}
 use Rattle.attributes.proofs.Numbers.{number_of_set_in}
 use Rattle.contexts.specs.Contexts.{Implication, common}
-use Rattle.contexts.specs.Values.{implication_at}
+use Rattle.contexts.specs.Values.{implication_at, pair_of}
 use Rattle.contexts.specs.declared.implication.Implication.{Implication as Pair}
 use Rattle.premises.proofs.From.{from_empty}
 use Rattle.dialogues.specs.Dialogue.{Knowledge, about, question, question_from}
-use Rattle.exploration.specs.Row.{Bounded, pair_of}
+use Rattle.exploration.specs.Row.{Bounded}
 
 -- a question of the code is the question that it stands for
 pub paired : (n : ℕ) (asked : Option Pair) (q : Option Implication) → option_map (implication_at n) asked ≡ q → Bounded n asked → asked ≡ option_map pair_of q

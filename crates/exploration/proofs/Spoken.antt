@@ -7,15 +7,15 @@ use Rattle.std.specs.List.{AllByRecursion}
 use Rattle.attributes.specs.Numbers.{set_in, number_of}
 use Rattle.attributes.specs.Sets.{Set}
 use Rattle.attributes.specs.declared.set.AttributeSet.{AttributeSet}
-use Rattle.attributes.proofs.Numbers.{number_of_below, set_in_number_of}
+use Rattle.attributes.proofs.Numbers.{number_of_below, set_in_back}
 use Rattle.contexts.specs.Contexts.{Context, OfWidth, Implication, respects}
-use Rattle.contexts.specs.Values.{implication_at}
+use Rattle.contexts.specs.Values.{implication_at, pair_of}
 use Rattle.implications.specs.Implications.{respects_all}
 use Rattle.implications.proofs.Repairs.{implications_length}
 use Rattle.exploration.specs.Answers.{RoomFor, checked_answer, counts_in, judged, judged_given, judged_row, named_if_room, row_after, unless_fault, written, StepBounded}
 use Rattle.dialogues.specs.Dialogue.{Knowledge, Answer, always, object, question, taken, with_answer, after, after_all, TrueAnswer, Truthful, nothing_known}
 use Rattle.dialogues.specs.Promise.{Room, learnt, Explored}
-use Rattle.exploration.specs.Row.{attribute_fault, attributes_in, asked_in, checked_row, example_part, fault_or, implication_part, known_in, opened, pair_of}
+use Rattle.exploration.specs.Row.{attribute_fault, attributes_in, asked_in, checked_row, example_part, fault_or, implication_part, known_in, opened}
 use Rattle.exploration.specs.Turns.{DialogueHeld, PromiseKept, Told, answers_in, code, encoded, row_after_all, turns_of}
 use Rattle.exploration.specs.declared.answer.Answer.{Answer as Given}
 use Rattle.exploration.specs.declared.answer.Answer.TheVariants.{Always, Object}
@@ -45,11 +45,9 @@ pub record Ready (n : ℕ) (row : List ℕ) (k : Knowledge) : Type 0 where
   pub known : known_in row ≡ k
 
 -- a set of n attributes is what its number stands for, and so is an implication
-set_back : (n : ℕ) (s : Set) → length s ≡ n → set_in n (number_of s) ≡ s
-set_back n s e = ap (λ (m : ℕ). set_in m (number_of s)) (sym e) ∙ set_in_number_of s
 
 pub pair_back : (n : ℕ) (q : Implication) → length q.premise ≡ n → length q.conclusion ≡ n → implication_at n (pair_of q) ≡ q
-pair_back n q a b = λ j. record { premise = set_back n q.premise a j; conclusion = set_back n q.conclusion b j }
+pair_back n q a b = λ j. record { premise = set_in_back n q.premise a j; conclusion = set_in_back n q.conclusion b j }
 
 below : (n : ℕ) (s : Set) → length s ≡ n → number_of s < 2 ^ n
 below n s e = subst (λ (m : ℕ). number_of s < 2 ^ m) e (number_of_below s)
@@ -107,7 +105,7 @@ module _ (n : ℕ) (row : List ℕ) (k : Knowledge) (ready : Ready n row k) (q :
       ∙ ap (λ (b : Bool). cond b (Ok (Confirm (pair_of q))) (Err NoRoomForImplication)) (lt-ltb (get_or row 1 0) 4096 (omega (arith, count_implications n row k ready)))
   judged_step (object s) t room =
       let g = good n k q s t in
-      let back : set_in n (number_of s) ≡ s = set_back n s g.wide in
+      let back : set_in n (number_of s) ≡ s = set_in_back n s g.wide in
       let object_is : AttributeSet = record { bits = number_of s } in
       judged_asked (object s) (Object object_is) (coded n s g.wide)
       ∙ ap (named_if_room (counts_in row))
@@ -124,7 +122,7 @@ module _ (n : ℕ) (row : List ℕ) (k : Knowledge) (ready : Ready n row k) (q :
 
   step_learns : (a : Answer) → taken n k (Some q) a ≡ true → learnt_from n k (step_of q a) ≡ with_answer k (Some q) a
   step_learns always t = ap (λ (i : Implication). record { confirmed = k.confirmed ++ i ∷ []; examples = k.examples }) (pair_back n q wide_p wide_c)
-  step_learns (object s) t = ap (λ (x : Set). record { confirmed = k.confirmed; examples = k.examples ++ x ∷ [] }) (set_back n s (good n k q s t).wide)
+  step_learns (object s) t = ap (λ (x : Set). record { confirmed = k.confirmed; examples = k.examples ++ x ∷ [] }) (set_in_back n s (good n k q s t).wide)
 
   -- so it is taken by the row, which then knows it too
   pub ready_step : (a : Answer) → taken n k (Some q) a ≡ true → Room k a → Ready n (row_after row (judged_row row (code a))) (with_answer k (Some q) a)

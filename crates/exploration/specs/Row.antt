@@ -3,9 +3,7 @@
 use Rattle.std.specs.Prelude.{ℕ, ◌*◌, ◌^◌, ◌<◌, cond, List, length, take, drop, IfSome, Some, None, Ok, Err, Option, Result, nat_le, nat_lt, slice_index, slice_set}
 use Rattle.std.specs.List.{position_from}
 use Rattle.std.specs.Option.{option_map}
-use Rattle.attributes.specs.Numbers.{number_of}
-use Rattle.contexts.specs.Contexts.{Implication}
-use Rattle.contexts.specs.Values.{objects_in}
+use Rattle.contexts.specs.Values.{objects_in, pair_of}
 use Rattle.contexts.specs.declared.implication.Implication.{Implication as Pair}
 use Rattle.implications.specs.Values.{implications_in}
 use Rattle.dialogues.specs.Dialogue.{Knowledge, question}
@@ -41,7 +39,7 @@ checked_row row =
     (cond (nat_lt 4096 (slice_index row 2)) (Err TooManyExamples)
     (Ok (record { implications = slice_index row 1; examples = slice_index row 2 }))))
 
--- the place, counted from `at`, of the first number that is not below the limit
+-- the place of the first number that is not below the limit, counted from a given one
 abbrev pub first_from : ℕ → ℕ → List ℕ → Option ℕ
 first_from limit = position_from (λ m. nat_le limit m)
 
@@ -66,10 +64,6 @@ attribute_fault row = cond (nat_lt 12 (attributes_in row)) (Some TooManyAttribut
 -- the first refusal that applies to the row
 abbrev pub row_fault : List ℕ → Option Refusal
 row_fault row = fault_or (checked_row row) (attribute_fault row)
-
--- an implication as the code has it
-abbrev pub pair_of : Implication → Pair
-pair_of q = record { premise = record { bits = number_of q.premise }; conclusion = record { bits = number_of q.conclusion } }
 
 -- a question of the code says nothing beyond n attributes
 abbrev pub Bounded : ℕ → Option Pair → Type 0

@@ -1,6 +1,6 @@
 // Answers, and the checks that an answer has to pass.
 ghost use Rattle.std.specs.Prelude.{◌≡◌, ◌^◌, ◌<◌, ltb, if◌then◌else◌, Ok, Err, nat_eq};
-ghost use Rattle.implications.specs.Values.{implications_in};
+ghost use Rattle.implications.specs.Lists.{said_by};
 ghost use Rattle.exploration.specs.Answers.{checked_answer, checked_object};
 ghost use Rattle.exploration.specs.declared.answer.Answer.TheVariants.{Always, Object};
 ghost use Rattle.replies.specs.declared.reply.Refusal.TheVariants.{AlwaysWithNumber, UnknownAttributeNamed};
@@ -11,7 +11,7 @@ use implications::Implications;
 use replies::Refusal;
 
 // What is said to a question.
-#[derive(Clone, Copy)]
+#[derive(Clone, Copy, PartialEq, Eq, Debug)]
 pub enum Answer {
     // All objects with the premise have the conclusion.
     Always,
@@ -59,7 +59,7 @@ pub(crate) fn check_object(
 ) -> Result<AttributeSet, Refusal>
     requires premise { asked.premise.bits < 2 ^ confirmed.now.n.value }
     requires conclusion { asked.conclusion.bits < 2 ^ confirmed.now.n.value }
-    ensures { result ≡ checked_object confirmed.now.n.value (implications_in confirmed.now.n.value confirmed.now.numbers.now) asked object }
+    ensures { result ≡ checked_object confirmed.now.n.value (said_by confirmed.now) asked object }
 {
     if asked.is_respected_by(object) {
         return Err(Refusal::NotACounterexample(object));

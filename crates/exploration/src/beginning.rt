@@ -6,7 +6,7 @@ use crate::row::ROW_LENGTH;
 use attributes::MOST_ATTRIBUTES;
 use replies::Refusal;
 
-// Whether a row can be opened for n attributes.
+// Whether a row can be opened for n attributes. It tests n as `AttributeCount` does, but has no use for one: what is written is n itself.
 pub(crate) fn check_opening(known: &[u64], n: u64) -> Result<(), Refusal>
     ensures value { result ≡ opening n known.now }
     ensures cases { MatchResult result (λ _. (12291 ≤ length known.now) × (n ≤ 12)) (λ _. opened n known.now ≡ known.now) }

@@ -40,8 +40,9 @@ impl From<AllocError> for NotHeld {
     }
 }
 
-// Holds a dialogue from nothing known: opens the row, takes or refuses the answers in turn, and tells what became of each. If the answers
-// are truthful for some yard, none is refused, and once nothing is asked any more the row knows the least list of that yard.
+// Holds a dialogue from nothing known: opens the row, takes or refuses the answers in turn, and tells what became of each. The answers are lent as
+// numbers, two for each, which is a rule of the project. If they are truthful for some yard, none is refused, and once nothing is asked any more the
+// row knows the least list of that yard.
 pub fn take_all(
     heap: Global,
     known: &mut [u64],
@@ -55,6 +56,7 @@ pub fn take_all(
     take_in_turn(heap, known, n, answers)
 }
 
+// `take_all` without its promise, which follows from what this says. A function with all three clauses would owe the promise at each return.
 fn take_in_turn(
     heap: Global,
     known: &mut [u64],

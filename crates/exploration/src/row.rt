@@ -78,7 +78,7 @@ impl<'a> Row<'a> {
     }
 }
 
-// The place of the first number that is not below a limit.
+// The place of the first number that is not below a limit. The bases count those before it: one line in each crate.
 fn first_not_below(limit: u64, numbers: &[u64]) -> Option<usize>
     ensures value { result ≡ position (λ m. nat_le limit m) numbers.now }
     ensures inside { IfSome result (λ place. place < length numbers.now) }
@@ -86,7 +86,8 @@ fn first_not_below(limit: u64, numbers: &[u64]) -> Option<usize>
     numbers.iter().position(|number| *number >= limit)
 }
 
-// Takes the refusal from a check that has one: a rule of the project is that each check hands on its value or leaves with its refusal by let .. else.
+// Takes the refusal from a check that has one: a rule of the project is that each check of a row or an answer hands on its value or leaves with its
+// refusal by let .. else.
 pub(crate) fn refusal_of<T: Copy>(checked: Result<T, Refusal>) -> Refusal
     requires { is_err checked ≡ true }
     ensures { checked ≡ Err result }

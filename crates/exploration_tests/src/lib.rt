@@ -48,7 +48,7 @@ mod tests {
     #[test]
     fn opening_writes(rt: HostRuntime) -> Result<(), Fail> {
         let mut row = vec![in rt.alloc(); 7u64; ROW_LENGTH]?;
-        let _ = open(row.as_mut_slice(), 13);
+        assert!(rt; open(row.as_mut_slice(), 13).is_err());
         assert!(rt; row.starts_with(&[7]), "a refusal leaves the row");
         open(row.as_mut_slice(), 12)?;
         assert!(rt;

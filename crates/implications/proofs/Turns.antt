@@ -9,9 +9,9 @@ use Rattle.std.proofs.lemmas.Iterator.Consumers.{YieldsList-from_shown}
 use Rattle.std.proofs.Math.Seq.{take-length}
 use Rattle.attributes.specs.Numbers.{number_of, set_in}
 use Rattle.attributes.specs.Sets.{Set}
-use Rattle.attributes.proofs.Numbers.{length_set_in, number_of_below, number_of_set_in, set_in_number_of}
+use Rattle.attributes.proofs.Numbers.{length_set_in, number_of_below, number_of_set_in, set_in_back}
 use Rattle.contexts.specs.Contexts.{Implication, respects}
-use Rattle.contexts.specs.Values.{implication_at}
+use Rattle.contexts.specs.Values.{implication_at, pair_of}
 use Rattle.contexts.specs.declared.implication.Implication.{Implication as Pair}
 use Rattle.implications.specs.Implications.{respects_all}
 use Rattle.implications.specs.Places.{no_implication, FirstBroken, IsFirstBroken, HasFirst, NextImplication}
@@ -36,10 +36,7 @@ implications_first n (p ∷ (c ∷ row)) h =
     let same : suc (suc (length row)) - 2 ≡ length row = omega arith in
     rw (same, take-length row) refl
 
--- how the code holds an implication
-abbrev pub pair_of : Implication → Pair
-pair_of i = record { premise = record { bits = number_of i.premise }; conclusion = record { bits = number_of i.conclusion } }
-
+-- the implications of a row as the code has them
 abbrev pub pairs_in : ℕ → List ℕ → List Pair
 pairs_in n row = map pair_of (implications_in n row)
 
@@ -67,9 +64,6 @@ pub record Stands (n : ℕ) (i : Implication) (p : Pair) : Type 0 where
   pub conclusion : p.conclusion.bits < 2 ^ n
   pub value : implication_at n p ≡ i
 
-set_in_back : (n m : ℕ) → set_in n (number_of (set_in n m)) ≡ set_in n m
-set_in_back n m = ap (λ (k : ℕ). set_in k (number_of (set_in n m))) (sym (length_set_in n m)) ∙ set_in_number_of (set_in n m)
-
 below : (n m : ℕ) → number_of (set_in n m) < 2 ^ n
 below n m = subst (λ (k : ℕ). number_of (set_in n m) < 2 ^ k) (length_set_in n m) (number_of_below (set_in n m))
 
@@ -81,7 +75,7 @@ stands_at n row k d h =
     let pair : get_or (pairs_in n row) k d ≡ pair_of (record { premise = set_in n p; conclusion = set_in n c }) =
     get_or-map pair_of (implications_in n row) k no_implication d (omega (arith, implications_length n row)) ∙ ap pair_of there
     in
-    rw pair (rw there (record { premise = below n p; conclusion = below n c; value = λ j. record { premise = set_in_back n p j; conclusion = set_in_back n c j } }))
+    rw pair (rw there (record { premise = below n p; conclusion = below n c; value = λ j. record { premise = set_in_back n (set_in n p) (length_set_in n p) j; conclusion = set_in_back n (set_in n c) (length_set_in n c) j } }))
 
 -- how a set fares with an implication that was read
 abbrev pub Fares : ℕ → Set → Bool → Pair → Type 0

@@ -1,5 +1,6 @@
 pub mod Implications
 pub mod Laws
+pub mod Lists
 pub mod Places
 pub mod Text
 pub mod Values

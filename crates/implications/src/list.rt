@@ -5,7 +5,6 @@ ghost use Rattle.contexts.specs.Values.{implication_at};
 ghost use Rattle.implications.specs.Implications.{respects_all, Closure, Follows};
 ghost use Rattle.implications.specs.Places.{no_implication, FirstBroken, IsFirstBroken, Repaired, Passed};
 ghost use Rattle.implications.specs.Text.{lines};
-ghost use Rattle.implications.specs.Values.{implications_in};
 
 use crate::iter::Iter;
 use attributes::{AttributeCount, AttributeSet};
@@ -21,6 +20,8 @@ pub struct Implications<'a> {
 }
 
 impl<'a> Implications<'a> {
+    ghost use Rattle.implications.specs.Lists.{said_by};
+
     // The implications in turn.
     pub fn iter(&self) -> Iter<'a>
         ensures n { result.n ≡ self.now.n }
@@ -34,7 +35,7 @@ impl<'a> Implications<'a> {
 
     // The place of the first implication that a set breaks.
     pub fn first_broken(&self, s: AttributeSet) -> Option<usize>
-        ensures { MatchOption result (respects_all (set_in self.now.n.value s.bits) (implications_in self.now.n.value self.now.numbers.now) ≡ true) (FirstBroken (implications_in self.now.n.value self.now.numbers.now) (set_in self.now.n.value s.bits)) }
+        ensures { MatchOption result (respects_all (set_in self.now.n.value s.bits) (said_by self.now) ≡ true) (FirstBroken (said_by self.now) (set_in self.now.n.value s.bits)) }
     {
         let outside = s.outside(self.n);
         self.iter()
@@ -43,7 +44,7 @@ impl<'a> Implications<'a> {
 
     // The closure of a set: the least set that contains it and respects all implications.
     pub fn close(&self, s: AttributeSet) -> AttributeSet
-        ensures value { Closure self.now.n.value (implications_in self.now.n.value self.now.numbers.now) (set_in self.now.n.value s.bits) (set_in self.now.n.value result.bits) }
+        ensures value { Closure self.now.n.value (said_by self.now) (set_in self.now.n.value s.bits) (set_in self.now.n.value result.bits) }
         ensures bound { result.bits < 2 ^ self.now.n.value }
     {
         self.grow(s.within(self.n))
@@ -51,16 +52,16 @@ impl<'a> Implications<'a> {
 
     // Whether an implication follows from the list.
     pub fn follows(&self, implication: Implication) -> bool
-        ensures { Decides result (Follows self.now.n.value (implications_in self.now.n.value self.now.numbers.now) (implication_at self.now.n.value implication)) }
+        ensures { Decides result (Follows self.now.n.value (said_by self.now) (implication_at self.now.n.value implication)) }
     {
         let closure = self.close(implication.premise);
         implication.conclusion.within(self.n).is_subset_of(closure)
     }
 
-    // Repairs what is broken until nothing is. Each repair adds an attribute that was missing.
+    // Repairs what is broken until nothing is, by recursion, which is a rule of the project. Each repair adds an attribute that was missing.
     fn grow(&self, s: AttributeSet) -> AttributeSet
         requires { s.bits < 2 ^ self.now.n.value }
-        ensures value { Closure self.now.n.value (implications_in self.now.n.value self.now.numbers.now) (set_in self.now.n.value s.bits) (set_in self.now.n.value result.bits) }
+        ensures value { Closure self.now.n.value (said_by self.now) (set_in self.now.n.value s.bits) (set_in self.now.n.value result.bits) }
         ensures bound { result.bits < 2 ^ self.now.n.value }
     {
         let Some(more) = self.repair(s) else {
@@ -71,7 +72,7 @@ impl<'a> Implications<'a> {
 
     // The set with the conclusion of the first implication that it breaks; None if it breaks none.
     pub fn repair(&self, s: AttributeSet) -> Option<AttributeSet>
-        ensures value { MatchOption result (respects_all (set_in self.now.n.value s.bits) (implications_in self.now.n.value self.now.numbers.now) ≡ true) (λ g. Repaired (implications_in self.now.n.value self.now.numbers.now) (set_in self.now.n.value s.bits) (set_in self.now.n.value g.bits)) }
+        ensures value { MatchOption result (respects_all (set_in self.now.n.value s.bits) (said_by self.now) ≡ true) (λ g. Repaired (said_by self.now) (set_in self.now.n.value s.bits) (set_in self.now.n.value g.bits)) }
         ensures bound { IfSome result (λ g. g.bits < 2 ^ self.now.n.value) }
     {
         let s = s.within(self.n);
@@ -79,18 +80,18 @@ impl<'a> Implications<'a> {
         Some(s.join(broken.conclusion))
     }
 
-    // The first implication that a set breaks.
+    // That implication itself: `first_broken` tells its place, and to read it there would be another walk.
     fn broken(&self, s: AttributeSet) -> Option<Implication>
-        ensures { MatchOption result (respects_all (set_in self.now.n.value s.bits) (implications_in self.now.n.value self.now.numbers.now) ≡ true) (IsFirstBroken self.now.n.value (implications_in self.now.n.value self.now.numbers.now) (set_in self.now.n.value s.bits)) }
+        ensures { MatchOption result (respects_all (set_in self.now.n.value s.bits) (said_by self.now) ≡ true) (IsFirstBroken self.now.n.value (said_by self.now) (set_in self.now.n.value s.bits)) }
     {
         let outside = s.outside(self.n);
         self.iter()
             .find(|implication| implication.is_broken_outside(outside))
     }
 
-    // Adds the conclusions of the implications whose premises are inside, once in the list's order.
+    // Adds the conclusions of the implications whose premises are inside, once in the list's order. Nothing here uses it.
     pub fn pass(&self, s: AttributeSet) -> AttributeSet
-        ensures value { Passed self.now.n.value (implications_in self.now.n.value self.now.numbers.now) (set_in self.now.n.value s.bits) (set_in self.now.n.value result.bits) }
+        ensures value { Passed self.now.n.value (said_by self.now) (set_in self.now.n.value s.bits) (set_in self.now.n.value result.bits) }
         ensures bound { result.bits < 2 ^ self.now.n.value }
     {
         let mut grown = s.within(self.n);
@@ -104,7 +105,7 @@ impl<'a> Implications<'a> {
 
     // The implication at a place of the list; None past its end.
     pub fn nth(&self, place: usize) -> Option<Implication>
-        ensures value { MatchOption result (length self.now.numbers.now / 2 ≤ place) (λ i. (place < length self.now.numbers.now / 2) × (implication_at self.now.n.value i ≡ slice_index_or (implications_in self.now.n.value self.now.numbers.now) place no_implication)) }
+        ensures value { MatchOption result (length self.now.numbers.now / 2 ≤ place) (λ i. (place < length self.now.numbers.now / 2) × (implication_at self.now.n.value i ≡ slice_index_or (said_by self.now) place no_implication)) }
         ensures bound { IfSome result (λ i. (i.premise.bits < 2 ^ self.now.n.value) × (i.conclusion.bits < 2 ^ self.now.n.value)) }
     {
         self.iter().nth(place)
@@ -113,7 +114,10 @@ impl<'a> Implications<'a> {
 
 // A line for each implication.
 impl fmt::Display for Implications<'_> {
-    ghost output = { λ l. Some (lines (implications_in l.n.value l.numbers.now)) };
+    ghost use Rattle.std.specs.Prelude.{Some};
+    ghost use Rattle.implications.specs.Lists.{said_by};
+
+    ghost output = { λ l. Some (lines (said_by l)) };
 
     fn fmt<W: fmt::Write>(&self, f: &mut fmt::Formatter<W>) -> fmt::Result {
         for line in self.iter() {

@@ -10,7 +10,7 @@ mod tests {
     use implications::Implications;
     use std::test::Fail;
 
-    // leech, bream, frog, dog, spike-weed, reed, bean, maize
+    // leech, bream, frog, dog, spike-weed, reed, bean, maize; each crate of tests has its own, to be read alone
     const BEINGS: [u64; 8] = [
         0b0_0100_0011,
         0b0_1100_0011,

@@ -1,5 +1,6 @@
 -- How the next set that respects a list is sought: attribute by attribute, in branches. Assumes nothing.
 use Rattle.std.proofs.Common.{◌≡◌, ℕ, zero, suc, ◌^◌, ◌<◌, ◌≤◌, Bool, true, false, ◌&&◌, List, [], ◌∷◌, length, set, Some, None, sym, refl, ap, ◌∙◌, inl, inr, lt_of_lt_of_le, arith, pow_mono}
+use Rattle.std.specs.Cmp.{both_ways as equal_tests}
 use Rattle.std.proofs.lemmas.List.{ext_get_or, get_or-set_same, get_or-set_other}
 use Rattle.std.proofs.lemmas.Bool.{both_ways, true≢false, cases_eq, cases_lt, false_from_ne_true, and_parts, and_from}
 use Rattle.attributes.specs.Lectic.{precedes}
@@ -64,11 +65,6 @@ pub record Growing (n : ℕ) (is : List Implication) (s : Set) (i : ℕ) (r : Se
   pub there : has r i ≡ true
   pub inside : (t : Set) → NextBranch n is s i t → subset r t ≡ true
 
-same_test : (x y : Bool) → (x ≡ true → y ≡ true) → (y ≡ true → x ≡ true) → x ≡ y
-same_test true y p q = sym (p refl)
-same_test false true p q = q refl
-same_test false false p q = refl
-
 -- numbers p and q hold what a and b have below attribute i: they are the same if and only if a and b agree there
 module _ {n i p q : ℕ} (a b : ℕ) (low : i ≤ n) (small : p < 2 ^ i) (few : q < 2 ^ i) (one : set_in i p ≡ set_in i a) (other : set_in i q ≡ set_in i b) where
   pub same_agree : p ≡ q → Agree i (set_in n a) (set_in n b)
@@ -121,7 +117,7 @@ module _ {n : ℕ} (row : List ℕ) {s : Set} {i : ℕ} {r : Set} (growing : Gro
 
     -- if there is a set in the branch, nothing was added below i
     pub growing_agrees : (t : Set) → NextBranch n (implications_in n row) s i t → Agree i s g
-    growing_agrees t m c h = same_test (has s c) (has g c) (λ x. more_has c (sym (growing.agrees c h) ∙ x)) (λ x. m.agrees c h ∙ subset_has g t (inside_more t m) c x)
+    growing_agrees t m c h = equal_tests (has s c) (has g c) (λ x. more_has c (sym (growing.agrees c h) ∙ x)) (λ x. m.agrees c h ∙ subset_has g t (inside_more t m) c x)
 
 -- from attribute a on there is no set that respects the list and differs from s first in an attribute that s lacks
 abbrev pub NoneFrom : ℕ → List Implication → Set → ℕ → Type 0

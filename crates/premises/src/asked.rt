@@ -12,8 +12,8 @@ use attributes::AttributeSet;
 use contexts::Implication;
 use implications::Implications;
 
-// What is asked about the first open set that does not precede `from`. It goes through the sets that respect what is confirmed, and begins at
-// `from`, or behind it if `from` is none of them.
+// What is asked about the first open set that does not precede `from`. What is confirmed is read with the n of what forces, so it comes without
+// one of its own. The search goes through the sets that respect what is confirmed, and begins at `from`, or behind it if `from` is none of them.
 pub fn first_asked_from<F: Forces>(
     confirmed: &[u64],
     forces: &F,

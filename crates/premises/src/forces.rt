@@ -3,8 +3,8 @@ ghost use Rattle.std.specs.Prelude.{◌≡◌, ℕ, ◌^◌, ◌<◌};
 ghost use Rattle.attributes.specs.Numbers.{set_in};
 ghost use Rattle.attributes.specs.Sets.{Set};
 ghost use Rattle.contexts.specs.Contexts.{common};
-ghost use Rattle.contexts.specs.Values.{objects_in};
-ghost use Rattle.implications.specs.Values.{implications_in};
+ghost use Rattle.contexts.specs.Objects.{objects_of};
+ghost use Rattle.implications.specs.Lists.{said_by};
 ghost use Rattle.premises.specs.Forced.{closure};
 
 use attributes::{AttributeCount, AttributeSet};
@@ -31,7 +31,7 @@ pub trait Forces {
 impl Forces for Context<'_> {
     ghost width = { λ t. t.n.value };
 
-    ghost forced = { λ t s. common t.n.value (objects_in t.n.value t.objects.now) s };
+    ghost forced = { λ t s. common t.n.value (objects_of t) s };
 
     fn count(&self) -> AttributeCount {
         self.n
@@ -46,7 +46,7 @@ impl Forces for Context<'_> {
 impl Forces for Implications<'_> {
     ghost width = { λ l. l.n.value };
 
-    ghost forced = { λ l s. closure l.n.value (implications_in l.n.value l.numbers.now) s };
+    ghost forced = { λ l s. closure l.n.value (said_by l) s };
 
     fn count(&self) -> AttributeCount {
         self.n

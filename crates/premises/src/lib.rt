@@ -18,7 +18,8 @@ pub use asked::first_asked_from;
 pub use forces::Forces;
 pub use laws::{closure_is_common, first_laws, openness_monotone, search_may_begin};
 
-// The lectically first set that respects what is confirmed and lacks an attribute that it forces.
+// The lectically first set that respects what is confirmed and lacks an attribute that it forces. It and the next are for callers that want the set
+// alone; nothing here does.
 pub fn first_open<F: Forces>(confirmed: &[u64], forces: &F) -> Option<AttributeSet>
     ensures value { option_map (λ q. set_in (F.Forces.width forces.now) q.bits) result ≡ first_open (F.Forces.width forces.now) (F.Forces.forced forces.now) (implications_in (F.Forces.width forces.now) confirmed.now) }
     ensures bound { IfSome result (λ q. q.bits < 2 ^ F.Forces.width forces.now) }

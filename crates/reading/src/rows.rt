@@ -61,10 +61,7 @@ pub fn list_from_bytes(heap: Global, n: u8, bytes: &[u8]) -> Result<Vec<u64>, Al
 pub fn behind_list(bytes: &[u8]) -> &[u8]
     ensures { result.now ≡ behind bytes.now }
 {
-    match split_list(bytes) {
-        Some((_, _, behind)) => behind,
-        None => &[],
-    }
+    split_list(bytes).map_or(&[], |(_, _, behind)| behind)
 }
 
 // The count of the list that begins these bytes, its implications' pairs and what is behind them; None without a whole count.

@@ -92,6 +92,7 @@ impl fmt::Display for Refusal {
     }
 }
 
+// A question, the end, or a refusal: an enum of these three is a rule of the project.
 #[derive(Clone, Copy, PartialEq, Eq, Debug)]
 pub enum Reply {
     // Have all objects with the premise also the conclusion?

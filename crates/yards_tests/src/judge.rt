@@ -26,7 +26,7 @@ pub enum Fault {
 pub const FAULTS: usize = Fault::NoRoomForExample as usize + 1;
 
 impl Fault {
-    // The number by which the refusal is told.
+    // The number by which the refusal is told, which the list of refusals has.
     pub fn number(self) -> u64 {
         match self {
             Fault::ShortRow | Fault::ManyRules | Fault::ManyExamples => 1,

@@ -92,7 +92,8 @@ impl Found {
         Ok(())
     }
 
-    // Leads a dialogue about the yard to its end. Twice 2^n answers suffice, and none is refused.
+    // Leads a dialogue about the yard to its end. Twice 2^n answers suffice, and none is refused. The loop is left early: an answer needs the reply
+    // before it, so there is no list to go through.
     pub fn hold(&mut self) -> Result<(), Fail> {
         self.answers.clear();
         open(self.row.as_mut_slice(), u64::from(self.n))?;

@@ -4,7 +4,7 @@ use Rattle.attributes.specs.Sets.{Set, has}
 use Rattle.attributes.proofs.Numbers.{length_set_in}
 use Rattle.attributes.proofs.Text.{so_far_in, so_far_out, so_far_all}
 use Rattle.attributes.proofs.set.write_list.Goals as goal
-use Rattle.attributes.proofs.set.write_list.Goals.{then-contains+in_ok-write_next, else-contains}
+use Rattle.attributes.proofs.set.write_list.Goals.{then-contains+in_ok-write_str+in_ok-write_str-2, else-contains}
 
 pub loop-attribute-preserved : goal.loop-attribute-preserved
 loop-attribute-preserved g c =
@@ -13,13 +13,21 @@ loop-attribute-preserved g c =
     let there : c.loop-attribute.attribute < length s = omega (arith, length_set_in 16 c.args.s.bits, c.loop-attribute-test.true) in
     let tested : has s c.loop-attribute.attribute ≡ c.contains.result = sym (c.contains.ensures 16 small) in
     elim c.if-contains.branch [
-      | then-contains+in_ok-write_next w ↦
-          rw (w.f-is, w.first-is) (so_far_in g.W.Write.write_str_gives s c.args.f.now c.loop-attribute.f c.loop-attribute.first c.loop-attribute.attribute c.loop-attribute.invariant w.write_next.new.f there (tested ∙ w.if-contains.true) (λ plain. w.in_ok-write_next.ensures plain (refl {a = true})))
+      | then-contains+in_ok-write_str+in_ok-write_str-2 w ↦
+          rw (w.f-is, w.between-is) (
+            search rules,
+            so_far_in g.W.Write.write_str_gives s c.args.f.now c.loop-attribute.f c.loop-attribute.between.now c.loop-attribute.attribute c.loop-attribute.invariant.1 w.write_str.new.self w.write_str-then-contains.new.self there (tested ∙ w.if-contains.true)
+                (λ plain. w.in_ok-write_str.ensures.writes plain (refl {a = true}))
+                (λ plain. rw (sym w.digits.ensures) (w.in_ok-write_str-2.ensures.writes plain (refl {a = true}))),
+          )
       | else-contains w ↦
-          rw (w.f-is, w.first-is) (so_far_out g.W.Write.write_str_gives s c.args.f.now c.loop-attribute.f c.loop-attribute.first c.loop-attribute.attribute c.loop-attribute.invariant there (tested ∙ w.if-contains.false))
+          rw (w.f-is, w.between-is) (
+            c.loop-attribute.invariant.0,
+            so_far_out g.W.Write.write_str_gives s c.args.f.now c.loop-attribute.f c.loop-attribute.between.now c.loop-attribute.attribute c.loop-attribute.invariant.1 there (tested ∙ w.if-contains.false),
+          )
     ]
 
 pub returns : goal.returns
 returns g c plain ok =
     let all : length (set_in 16 c.args.s.bits) ≤ c.loop-attribute.attribute = omega (arith, length_set_in 16 c.args.s.bits, c.loop-attribute-test.false) in
-    so_far_all g.W.Write.write_str_gives (set_in 16 c.args.s.bits) c.args.f.now c.loop-attribute.f c.loop-attribute.first c.loop-attribute.attribute c.loop-attribute.invariant all plain
+    so_far_all g.W.Write.write_str_gives (set_in 16 c.args.s.bits) c.args.f.now c.loop-attribute.f c.loop-attribute.between.now c.loop-attribute.attribute c.loop-attribute.invariant.1 all plain
