@@ -1,5 +1,5 @@
 -- A pass over a list of implications. Assumes nothing.
-use Rattle.std.proofs.Common.{◌≡◌, ℕ, true, false, List, [], ◌∷◌, ◌++◌, length, append-nil, append_assoc, sym, refl, ap, ◌∙◌, subst, inl, inr, arith}
+use Rattle.std.proofs.Common.{◌≡◌, ℕ, true, false, List, [], ◌∷◌, ◌++◌, length, append_assoc, sym, refl, ap, ◌∙◌, subst, inl, inr, arith}
 use Rattle.std.proofs.ByRecursion.{has_append_right, has_push_cases}
 use Rattle.std.proofs.lemmas.Bool.{both_ways}
 use Rattle.std.specs.List.{ContainsAt}
@@ -9,7 +9,6 @@ use Rattle.attributes.proofs.Sets.{subset_refl, subset_trans, join_left, join_ri
 use Rattle.contexts.specs.Contexts.{Implication}
 use Rattle.contexts.proofs.Holding.{respects_apply}
 use Rattle.implications.specs.Implications.{respects_all}
-use Rattle.implications.specs.Places.{Passed}
 use Rattle.implications.proofs.Respects.{respects_has}
 
 -- a pass over the implications before those left made g of s
@@ -62,8 +61,3 @@ module _ (n : ℕ) (is : List Implication) (s : Set) where
                 | inr e ↦ absurd (both_ways (subset i.premise g) h (subset_trans i.premise s g (subst (λ (j : Implication). subset j.premise s ≡ true) (sym e) p) before.contains))
               ];
         }
-
-  pub passing_all : (g : Set) (left : List Implication) → left ≡ [] → Passing n is s g left → Passed n is s g
-  passing_all g left none p =
-      let all : p.done ≡ is = sym (p.whole ∙ ap (λ (l : List Implication). p.done ++ l) none ∙ append-nil p.done) in
-      record { contains = p.contains; inside = p.inside; applied = λ i m. p.applied i (subst (λ (l : List Implication). ContainsAt l i) (sym all) m) }

@@ -7,16 +7,6 @@ use Rattle.contexts.proofs.Walks.{tested_at}
 use Rattle.contexts.proofs.context.last_with.Goals as goal
 use Rattle.contexts.proofs.context.last_with.Goals.{else-place-eq1-via-then-place-eq1+else-is_subset_of-3, else-place-eq1-via-else-place-eq1}
 
-pub returns-then-is_subset_of : goal.returns-then-is_subset_of
-returns-then-is_subset_of c n few small =
-    let row : List ℕ = c.args.objects.now in
-    let p : ℕ = c.loop-place.place in
-    record {
-      inside = omega (arith, c.loop-place.invariant.0);
-      has_all = tested_at n row (p - 1) c.of_number.result.bits (set_in n c.args.s.bits) c.is_subset_of.result (omega (arith, c.loop-place.invariant.0, c.requires)) (c.of_number.ensures n few) (c.is_subset_of.ensures n small) ∙ c.if-is_subset_of.true;
-      behind = λ j a b. c.loop-place.invariant.1 n few small j (omega arith) b;
-    }
-
 pub returns-then-is_subset_of-2 : goal.returns-then-is_subset_of-2
 returns-then-is_subset_of-2 c n few small =
     let row : List ℕ = c.args.objects.now in
@@ -59,17 +49,6 @@ loop-place-preserved c = (
         ]
       ],
 )
-
-pub returns-then-is_subset_of-3 : goal.returns-then-is_subset_of-3
-returns-then-is_subset_of-3 c n few small =
-    record {
-      inside = omega (arith, c.loop-place.invariant.0, c.if-place-eq1.true);
-      has_all =
-          tested_at n c.args.objects.now 0 c.of_number-then-place-eq1.result.bits (set_in n c.args.s.bits) c.is_subset_of-then-place-eq1.result
-          (omega (arith, c.loop-place.invariant.0, c.if-place-eq1.true, c.requires)) (c.of_number-then-place-eq1.ensures n few) (c.is_subset_of-then-place-eq1.ensures n small)
-          ∙ c.if-is_subset_of-3.true;
-      behind = λ j a b. c.loop-place.invariant.1 n few small j (omega (arith, c.if-place-eq1.true)) b;
-    }
 
 pub returns : goal.returns
 returns c n few small j a b =

@@ -4,10 +4,9 @@ use Rattle.attributes.specs.Sets.{Set}
 use Rattle.attributes.proofs.Numbers.{length_set_in}
 use Rattle.contexts.specs.Contexts.{Implication}
 use Rattle.contexts.specs.Values.{implication_at}
-use Rattle.implications.specs.Places.{Passed}
 use Rattle.implications.specs.Values.{implications_in}
-use Rattle.implications.proofs.Passes.{Passing, passing_none, passing_taken, passing_passed, passing_all}
-use Rattle.implications.proofs.Turns.{turn, ended}
+use Rattle.implications.proofs.Passes.{Passing, passing_none, passing_taken, passing_passed}
+use Rattle.implications.proofs.Turns.{turn}
 use Rattle.implications.proofs.list.Implications.pass.Goals as goal
 
 pub loop-implication-init : goal.loop-implication-init
@@ -43,14 +42,3 @@ loop-implication-preserved c =
       passing_passed n is (set_in n c.within-grown.result.bits) (set_in n c.loop-implication.grown.bits) _ _ (implication_at n c.in-Some.implication) first.1.first c.loop-implication.invariant.2
           (sym (c.is_subset_of.ensures n first.1.premise) ∙ c.if-is_subset_of.false),
     )
-
-pub returns : goal.returns
-returns c =
-    let n : ℕ = c.args.self.now.n.value in
-    let is : List Implication = implications_in n c.args.self.now.numbers.now in
-    record {
-      value =
-          subst (λ (s : Set). Passed n is s (set_in n c.loop-implication.grown.bits)) c.within-grown.ensures.value
-          (passing_all n is (set_in n c.within-grown.result.bits) (set_in n c.loop-implication.grown.bits) _ (ended _ n _ _ _ c.loop-implication.invariant.1 c.in-None.ensures.steps) c.loop-implication.invariant.2);
-      bound = c.loop-implication.invariant.0;
-    }
