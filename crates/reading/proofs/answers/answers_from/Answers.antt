@@ -1,22 +1,10 @@
-use Rattle.std.proofs.Common.{◌≡◌, ℕ, ◌+◌, ◌%◌, ◌<◌, List, [], ◌∷◌, ◌++◌, map, length, drop, flat_map, vec_items, sym, ap, ◌∙◌, append_assoc, append-nil, arith}
-use Rattle.std.proofs.lemmas.List.{at_drop_more, at_drop_all}
+use Rattle.std.proofs.Common.{◌≡◌, ℕ, ◌%◌, ◌<◌, List, [], ◌∷◌, ◌++◌, map, length, flat_map, vec_items, sym, ap, ◌∙◌, append-nil, arith}
+use Rattle.std.proofs.lemmas.List.{at_drop_all}
 use Rattle.std.specs.Option.{option_copied}
 use Rattle.reading.proofs.Chunks.{answer, answers_by_chunks, none_left, one_left}
 use Rattle.reading.specs.AnswerBytes.{numbers_in}
 use Rattle.reading.proofs.answers.answers_from.Goals as goal
 use Rattle.reading.proofs.answers.answers_from.Goals.{in-Some+in_ok-push-3, in_default}
-
-pub loop-first-preserved : goal.loop-first-preserved
-loop-first-preserved c =
-    let answers : List (List ℕ) = c.as_chunks.result.0.now in
-    let k : ℕ = c.loop-first.first-index in
-    let done : List ℕ = vec_items c.loop-first.numbers in
-    let rest : List ℕ = flat_map answer (drop (k + 1) answers) in
-    ap (λ (xs : List ℕ). xs ++ rest) (c.in_ok-push-2.ensures.items ∙ ap (λ (xs : List ℕ). xs ++ c.set_number.result ∷ []) c.in_ok-push.ensures.items)
-    ∙ (simp append_assoc)
-    ∙ (λ j. done ++ (c.from.ensures j ∷ (c.set_number.ensures j ∷ rest)))
-    ∙ ap (λ (xs : List ℕ). done ++ xs) (sym (at_drop_more (flat_map answer) answers k [] c.loop-first-test.true))
-    ∙ c.loop-first.invariant
 
 pub returns : goal.returns
 returns c =
