@@ -1,16 +1,18 @@
 -- The enumeration of all sets and the lectic test agree. Assumes nothing.
-use Rattle.std.proofs.Common.{◌≡◌, ℕ, zero, suc, ◌+◌, ◌-◌, ◌^◌, ◌<◌, ◌≤◌, true, false, ltb, ◌⊎◌, [], ◌∷◌, map, length, get_or, sym, refl, ap, ◌∙◌, inl, inr, le_antisymm, pow-suc, arith}
+use Rattle.std.proofs.Common.{◌≡◌, ℕ, zero, suc, ◌+◌, ◌-◌, ◌/◌, ◌%◌, ◌^◌, ◌<◌, ◌≤◌, Bool, true, false, cond, eqb, ltb, ◌⊎◌, [], ◌∷◌, map, length, get_or, sym, refl, ap, ap₂, ◌∙◌, inl, inr, le_antisymm, pow-suc, arith, Less, Greater, Equal}
+use lib.Bits.{bit_xor, differ, xor_step}
+use lib.Count.{count_trailing_zeros, under}
 use Rattle.std.proofs.lemmas.List.{length-append, length-map, get_or_append_left, get_or-append_right, get_or-map}
-use Rattle.std.proofs.lemmas.Bool.{cases_lt, lt-ltb, le-ltb, ltb-false}
+use Rattle.std.proofs.lemmas.Bool.{cases_lt, lt-ltb, le-ltb, ltb-false, ne_eqb}
 use Rattle.std.proofs.lemmas.Bool.Decides.{nat_tests}
-use Rattle.attributes.specs.Sets.{Set, subset}
+use Rattle.attributes.specs.Sets.{Set, has, subset}
 use Rattle.std.specs.Ordering.{bool_cmp, is_lt}
 use Rattle.std.specs.Cmp.Lexicographic.{slice_cmp}
 use Rattle.attributes.specs.Numbers.{set_in}
 use Rattle.attributes.specs.Lectic.{precedes, sets}
 use Rattle.attributes.specs.LecticOrder.{lectic_cmp, lectic_cmp_at}
 use Rattle.attributes.specs.Laws.{LecticAgrees, OrderLaws}
-use Rattle.attributes.proofs.Numbers.{length_set_in}
+use Rattle.attributes.proofs.Numbers.{cmp_bits, differ_small, length_set_in}
 
 twice : (n : ℕ) → 2 ^ suc n ≡ 2 ^ n + 2 ^ n
 twice n = omega (arith, pow-suc 2 n)
@@ -179,3 +181,53 @@ cmp_precedes (false ∷ s) (false ∷ t) e = cmp_precedes s t (omega arith)
 -- what `<` answers of two sets in the code
 pub less_precedes : (n a b : ℕ) → a < 2 ^ n → b < 2 ^ n → is_lt (lectic_cmp a b) ≡ precedes (set_in n a) (set_in n b)
 less_precedes n a b p q = ap is_lt (lectic_cmp_at n a b p q) ∙ cmp_precedes (set_in n a) (set_in n b) (length_set_in n a ∙ sym (length_set_in n b))
+
+order_step : (x y t : ℕ) (a b : Set) → x < 2 → y < 2 → has b t ≡ precedes a b → has (eqb y 1 ∷ b) (under (differ x y) t) ≡ precedes (eqb x 1 ∷ a) (eqb y 1 ∷ b)
+unfolding precedes
+order_step zero zero t a b p q e = e
+order_step zero (suc zero) t a b p q e = refl
+order_step zero (suc (suc y)) t a b p q e = absurd (omega arith)
+order_step (suc zero) zero t a b p q e = refl
+order_step (suc zero) (suc zero) t a b p q e = e
+order_step (suc zero) (suc (suc y)) t a b p q e = absurd (omega arith)
+order_step (suc (suc x)) y t a b p q e = absurd (omega arith)
+
+-- a set precedes another if that has the lowest attribute in which they differ
+pub precedes_bits : (k n a b : ℕ) → a < 2 ^ k → b < 2 ^ k → has (set_in n b) (count_trailing_zeros k (bit_xor a b)) ≡ precedes (set_in n a) (set_in n b)
+unfolding set_in count_trailing_zeros precedes
+precedes_bits k zero a b p q = refl
+precedes_bits zero (suc n) a b p q =
+    let same : a ≡ b = omega arith in
+    let even : b % 2 ≡ 1 → ⊥ = λ e. omega arith in
+    ne_eqb (b % 2) 1 even ∙ sym (ap (λ (x : ℕ). precedes (set_in (suc n) x) (set_in (suc n) b)) same ∙ precedes_irreflexive (set_in (suc n) b))
+precedes_bits (suc k) (suc n) a b p q =
+    let small : differ (a % 2) (b % 2) < 2 = differ_small (a % 2) (b % 2) (omega arith) (omega arith) in
+    let low : bit_xor a b % 2 ≡ differ (a % 2) (b % 2) = omega (arith, xor_step a b) in
+    let half : bit_xor a b / 2 ≡ bit_xor (a / 2) (b / 2) = omega (arith, xor_step a b) in
+    ap₂ (λ (d t : ℕ). has (set_in (suc n) b) (under d t)) low (ap (count_trailing_zeros k) half)
+    ∙ order_step (a % 2) (b % 2) (count_trailing_zeros k (bit_xor (a / 2) (b / 2))) (set_in n (a / 2)) (set_in n (b / 2)) (omega arith) (omega arith)
+    (precedes_bits k n (a / 2) (b / 2) (omega (arith, pow-suc 2 k)) (omega (arith, pow-suc 2 k)))
+
+-- how two sets compare, by that attribute: if the other has it, that alone decides
+module _ (k a b : ℕ) (p : a < 2 ^ k) (q : b < 2 ^ k) where
+  lowest : ℕ
+  lowest = count_trailing_zeros k (bit_xor a b)
+
+  decided : is_lt (bool_cmp (has (set_in k a) lowest) (has (set_in k b) lowest)) ≡ has (set_in k b) lowest
+  unfolding lowest
+  decided =
+      ap is_lt (cmp_bits k k a b p q)
+      ∙ cmp_precedes (set_in k a) (set_in k b) (length_set_in k a ∙ sym (length_set_in k b))
+      ∙ sym (precedes_bits k k a b p q)
+
+  pub compared : (x y : Bool) → has (set_in k a) (count_trailing_zeros k (bit_xor a b)) ≡ x → has (set_in k b) (count_trailing_zeros k (bit_xor a b)) ≡ y
+      → cond y Less (cond x Greater Equal) ≡ lectic_cmp a b
+  unfolding lowest
+  compared x y f g = go x y f g ∙ cmp_bits k k a b p q ∙ sym (lectic_cmp_at k a b p q)
+    where
+      go : (x y : Bool) → has (set_in k a) (count_trailing_zeros k (bit_xor a b)) ≡ x → has (set_in k b) (count_trailing_zeros k (bit_xor a b)) ≡ y
+          → cond y Less (cond x Greater Equal) ≡ bool_cmp (has (set_in k a) (count_trailing_zeros k (bit_xor a b))) (has (set_in k b) (count_trailing_zeros k (bit_xor a b)))
+      go true true f g = let both : is_lt (bool_cmp true true) ≡ true = ap₂ (λ (x y : Bool). is_lt (bool_cmp x y)) (sym f) (sym g) ∙ decided ∙ g in cc
+      go false true f g = ap₂ bool_cmp (sym f) (sym g)
+      go true false f g = ap₂ bool_cmp (sym f) (sym g)
+      go false false f g = ap₂ bool_cmp (sym f) (sym g)

@@ -174,7 +174,7 @@ cmp_step (suc zero) (suc zero) t a b p q e = e
 cmp_step (suc zero) (suc (suc y)) t a b p q e = absurd (omega arith)
 cmp_step (suc (suc x)) y t a b p q e = absurd (omega arith)
 
-differ_small : (x y : ℕ) → x < 2 → y < 2 → differ x y < 2
+pub differ_small : (x y : ℕ) → x < 2 → y < 2 → differ x y < 2
 differ_small zero y p q = q
 differ_small (suc zero) zero p q = omega arith
 differ_small (suc zero) (suc y) p q = omega arith

@@ -1,5 +1,5 @@
 -- The text of an attribute set, written attribute by attribute. Assumes nothing.
-use Rattle.std.proofs.Common.{◌≡◌, ℕ, zero, suc, ◌+◌, ◌/◌, ◌%◌, ◌^◌, ◌<◌, ◌≤◌, Bool, true, false, cond, eqb, List, [], ◌∷◌, ◌++◌, map, length, get_or, drop, codes, decimal, sym, refl, ap, zero-add, ◌∙◌, append_assoc, append-nil, lt_of_lt_of_le, pow-suc, add-one, arith, pow_mono}
+use Rattle.std.proofs.Common.{◌≡◌, ℕ, zero, suc, ◌+◌, ◌/◌, ◌%◌, ◌^◌, ◌<◌, ◌≤◌, Bool, true, false, cond, eqb, List, [], ◌∷◌, ◌++◌, map, length, get_or, drop, codes, decimal, sym, refl, ap, zero-add, ◌∙◌, append_assoc, append-nil, lt_of_lt_of_le, pow-suc, add-one, arith, pow_mono, rules}
 use Rattle.std.proofs.lemmas.Bool.{ne_eqb}
 use Rattle.std.proofs.Math.Seq.{drop-cons}
 use Rattle.std.proofs.lemmas.List.{drop_all}
@@ -24,6 +24,11 @@ written_none = refl
 pub written_some : (m : ℕ) → m < 2 ^ 16 → (m ≡ 0 → ⊥) → written (set_in 16 m) ≡ listed true 0 (set_in 16 m)
 unfolding written
 written_some m h ne = ap (λ (b : Bool). cond b (codes "-") (listed true 0 (set_in 16 m))) (ne_eqb (number_of (set_in 16 m)) 0 (λ e. ne (sym (number_of_set_in 16 m h) ∙ e)))
+
+-- where nothing stands between, nothing has to be written for it
+pub nothing_between : {W : Type 0} (took : W → List ℕ → W → Type 0) (f : Formatter W) (between : List ℕ) → length between ≡ 0 → IsPlainFormatter f → HasWritten took f between f
+nothing_between took f [] e plain = search rules
+nothing_between took f (x ∷ xs) e plain = absurd (omega arith)
 
 -- what was written of a set's attributes before attribute i, and what is left to write; between stands before the next one
 abbrev pub SoFar : {W : Type 0} → (W → List ℕ → W → Type 0) → Set → Formatter W → Formatter W → List ℕ → ℕ → Type 0

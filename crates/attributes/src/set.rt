@@ -172,7 +172,13 @@ impl Ord for AttributeSet {
 
     fn cmp(&self, other: &AttributeSet) -> Ordering {
         let lowest = (self.bits ^ other.bits).trailing_zeros() as u8;
-        self.contains(lowest).cmp(&other.contains(lowest))
+        if other.contains(lowest) {
+            Ordering::Less
+        } else if self.contains(lowest) {
+            Ordering::Greater
+        } else {
+            Ordering::Equal
+        }
     }
 }
 
@@ -213,7 +219,9 @@ fn write_list<W: fmt::Write>(s: AttributeSet, f: &mut fmt::Formatter<W>) -> fmt:
     let mut between = "";
     for attribute in 0..16u8 {
         if s.contains(attribute) {
-            f.write_str(between)?;
+            if !between.is_empty() {
+                f.write_str(between)?;
+            }
             f.write_str(digits(attribute))?;
             between = " ";
         }

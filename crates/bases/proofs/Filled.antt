@@ -13,7 +13,7 @@ use Rattle.bases.proofs.Equivalents.{base_shortest}
 use Rattle.bases.proofs.Turns.{length_numbers, numbers_back}
 
 -- the list that the row then has is the base
-row_has_base : (n : ℕ) (u : Context) (before after : List ℕ) → OfWidth n u → (w : WrittenBase n u before after) → list_in after ≡ w.base
+pub row_has_base : (n : ℕ) (u : Context) (before after : List ℕ) → OfWidth n u → (w : WrittenBase n u before after) → list_in after ≡ w.base
 row_has_base n u before after wide w =
     ap list_in w.row
     ∙ ap (implications_in n) (take_at (numbers_of w.base) (drop (2 * length w.base) (drop 2 before)) (2 * length w.base) (length_numbers w.base))

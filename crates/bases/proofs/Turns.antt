@@ -113,10 +113,11 @@ module _ {n : ℕ} {u : Context} {forced : Set → Set} (objects : CommonTo n fo
     more = run_push n u [] w.so_far q w.run found
 
     -- there are no more than 2 ^ n
+    pub writing_below : count < 2 ^ n
+    writing_below = omega (arith, run_bound n u [] (w.so_far ++ q ∷ []) more, length_push w.so_far q, w.counted)
+
     pub writing_few : n ≤ 12 → count < 4096
-    writing_few few =
-        let most : 2 ^ n ≤ 4096 = pow_mono {j = 12} few in
-        omega (arith, run_bound n u [] (w.so_far ++ q ∷ []) more, length_push w.so_far q, w.counted)
+    writing_few few = let most : 2 ^ n ≤ 4096 = pow_mono {j = 12} few in omega (arith, writing_below)
 
     pub writing_more : asked.premise.bits < 2 ^ n → asked.conclusion.bits < 2 ^ n → 2 * count + 2 ≤ length before
         → Writing n u before (set (set now (2 * count) asked.premise.bits) (2 * count + 1) asked.conclusion.bits) (count + 1) asked.premise.bits

@@ -78,7 +78,7 @@ module _ (n : ℕ) (row : List ℕ) (s : Set) where
       (ap (λ (c : Set). subset (common n (objects_in n row) s) c) e ∙ common_drop n row s i)
 
 -- an implication that the object at each place respects holds
-holds_places : (t : Context) (i : Implication) (k : ℕ) → length t ≤ k → ((j : ℕ) → j < k → respects (get_or t j []) i ≡ true) → holds t i ≡ true
+pub holds_places : (t : Context) (i : Implication) (k : ℕ) → length t ≤ k → ((j : ℕ) → j < k → respects (get_or t j []) i ≡ true) → holds t i ≡ true
 holds_places t i k h all = has_holds t i (λ o m. ap (λ (s : Set). respects s i) (sym (m.2 [])) ∙ all m.0 (omega (arith, m.1)))
 
 -- what a walk over the numbers of a row finds: no object that breaks an implication, or the first

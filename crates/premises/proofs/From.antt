@@ -1,18 +1,66 @@
 -- The first open set from a given one on, and from the start. Assumes nothing.
-use Rattle.std.proofs.Common.{◌≡◌, ℕ, zero, suc, Bool, true, false, not, ◌&&◌, List, [], ◌∷◌, ◌++◌, length, Some, None, Option, sym, refl, ap, ◌∙◌, inl, inr}
+use Rattle.std.proofs.Common.{◌≡◌, ℕ, zero, suc, Bool, true, false, not, ◌&&◌, List, [], ◌∷◌, ◌++◌, length, Some, None, Option, sym, refl, ap, ◌∙◌, inl, inr, arith, pow_pos}
 use mathlib.Core.Path.{fun_ext}
 use Rattle.std.proofs.ByRecursion.{has_append_left}
-use Rattle.std.proofs.lemmas.Bool.{cases_Bool}
+use Rattle.std.proofs.lemmas.Bool.{both_ways, cases_Bool, and_parts, and_from, not-true, not_from_false}
 use Rattle.std.specs.List.{ContainsAt}
 use Rattle.attributes.specs.Lectic.{precedes, sets}
 use Rattle.attributes.specs.Numbers.{set_in}
-use Rattle.attributes.specs.Sets.{Set, subset}
+use Rattle.attributes.specs.Sets.{Set, subset, has}
+use Rattle.attributes.proofs.Numbers.{has_past}
+use Rattle.attributes.proofs.Sets.{has_subset}
 use Rattle.contexts.specs.Contexts.{Implication, common}
 use Rattle.contexts.proofs.CommonAttributes.{common_fewer}
+use Rattle.implications.specs.Implications.{Closure}
+use Rattle.premises.specs.Branches.{InBranch, FoundInBranch}
 use Rattle.premises.specs.Laws.{IsFirst, OpennessMonotone, SearchMayBegin}
 use Rattle.premises.specs.Open.{is_open, first, first_open, first_open_from}
 use Rattle.premises.proofs.First.{first_laws}
-use Rattle.premises.proofs.Open.{stays_shut}
+use Rattle.premises.proofs.Open.{open_parts, stays_shut}
+
+empty_inside : (n : ℕ) (t : Set) → subset (set_in n 0) t ≡ true
+empty_inside n t = has_subset (set_in n 0) t (λ c h. absurd (both_ways (has (set_in n 0) c) (has_past n 0 c (pow_pos n) (pow_pos c)) h))
+
+-- the test by which the search from a given set goes
+module _ (n : ℕ) (forced : Set → Set) (is : List Implication) (from : Set) where
+  test : Set → Bool
+  test s = not (precedes s from) && is_open forced is s
+
+  passed : (t : Set) → test t ≡ true → (precedes t from ≡ false) × (is_open forced is t ≡ true)
+  unfolding test
+  passed t h = let p = and_parts (not (precedes t from)) (is_open forced is t) h in (not-true (precedes t from) p.0, p.1)
+
+  passes : (t : Set) → precedes t from ≡ false → is_open forced is t ≡ true → test t ≡ true
+  unfolding test
+  passes t p o = and_from (not (precedes t from)) (is_open forced is t) (not_from_false (precedes t from) p) o
+
+  -- a set fails if passing it leads to a set that is not open
+  fails : (t : Set) → (test t ≡ true → is_open forced is t ≡ false) → test t ≡ false
+  fails t f = elim (cases_Bool (test t)) [ inl h ↦ absurd (both_ways (is_open forced is t) (f h) (passed t h).1) | inr h ↦ h ]
+
+  -- the branch of all sets that contain the least set that respects the list
+  module _ (s : Set) (closed : Closure n is (set_in n 0) s) where
+    inside : (t : Set) → length t ≡ n → test t ≡ true → InBranch n 0 s from false t
+    inside t w h =
+        record {
+          wide = w;
+          agrees = λ c l. absurd (omega arith);
+          contains = closed.least t w (empty_inside n t) (open_parts forced is t (passed t h).1).0;
+          reached = λ e. (passed t h).0;
+        }
+
+    pub found_from : (r : Option Set) → FoundInBranch n 0 s from false (is_open forced is) r → r ≡ first_open_from n forced is from
+    unfolding first_open_from test
+    found_from None f = sym ((first_laws n test).nothing (λ t w. fails t (λ h. f t (inside t w h))))
+    found_from (Some q) f =
+        let at : IsFirst n test q =
+        record {
+          wide = f.inside.wide;
+          passes = passes q (f.inside.reached refl) f.passes;
+          earlier = λ t w p. fails t (λ h. f.before t (inside t w h) p);
+        }
+        in
+        sym ((first_laws n test).only q at)
 
 -- no set precedes the empty one
 precedes_empty : (n : ℕ) (s : Set) → precedes s (set_in n 0) ≡ false

@@ -19,7 +19,7 @@ use Rattle.premises.specs.Laws.{IsFirst}
 use Rattle.premises.proofs.First.{first_laws}
 
 -- of two sets that agree below attribute i that comes first that lacks it
-precedes_at : (i : ℕ) (t u : Set) → length t ≡ length u → Agree i t u → has t i ≡ false → has u i ≡ true → precedes t u ≡ true
+pub precedes_at : (i : ℕ) (t u : Set) → length t ≡ length u → Agree i t u → has t i ≡ false → has u i ≡ true → precedes t u ≡ true
 unfolding precedes
 precedes_at i [] [] e a p q = cc
 precedes_at i [] (y ∷ u) e a p q = absurd (omega arith)

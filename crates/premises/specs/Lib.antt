@@ -1,3 +1,4 @@
+pub mod Branches
 pub mod Forced
 pub mod Laws
 pub mod Open

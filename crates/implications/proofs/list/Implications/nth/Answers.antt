@@ -1,20 +1,12 @@
-use Rattle.std.proofs.Common.{ℕ, List, ap}
-use Rattle.std.proofs.lemmas.Iterator.Consumers.{nth_from_yields_List}
-use Rattle.attributes.specs.declared.count.AttributeCount.{AttributeCount}
-use Rattle.implications.specs.Values.{implications_in}
-use Rattle.implications.proofs.Turns.{at_place, value_at, bound_at, iter_gives}
+use Rattle.std.proofs.Common.{◌≡◌, ◌/◌, ◌<◌, ℕ, List, [], length, get_or, ap, ◌∙◌, arith}
+use Rattle.implications.proofs.Turns.{pairs_in, read_at}
 use Rattle.implications.proofs.list.Implications.nth.Goals as goal
 
-pub returns : goal.returns
-returns c =
-    let n : ℕ = c.args.self.now.n.value in
+pub returns-clause-value : goal.returns-clause-value
+returns-clause-value c =
     let row : List ℕ = c.args.self.now.numbers.now in
-    let found =
-    at_place n row c.args.place c.nth.result
-    (nth_from_yields_List c.nth.result c.nth.new.self c.args.place c.nth.ensures.ran
-    (iter_gives c.iter.result n row (ap (λ (n : AttributeCount). n.value) c.iter.ensures.n) c.iter.ensures.rest))
-    in
-    record {
-      value = value_at n (implications_in n row) c.args.place _ _ c.nth.result found;
-      bound = bound_at n (implications_in n row) c.args.place _ _ c.nth.result found;
-    }
+    let k : ℕ = c.args.place in
+    let found = c.in_ok-pair.ensures.lookup.3 in
+    let inside : k < length row / 2 = omega (arith, found.0, c.as_chunks.ensures.front_len) in
+    let pair : c.in_ok-pair.pair.now ≡ get_or (pairs_in row) k [] = found.1 [] ∙ ap (λ (pairs : List (List ℕ)). get_or pairs k []) c.as_chunks.ensures.front in
+    read_at c.args.self.now.n.value _ row _ _ k inside (c.as_slice.ensures ∙ pair) c.next.result c.next.ensures.steps
