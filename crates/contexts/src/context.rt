@@ -57,8 +57,8 @@ impl Context<'_> {
 }
 
 // The place of the last object before `end` that has all attributes of a set. It counts by hand, two objects to a turn, since it is the innermost loop
-// of all: with a `for` over the reversed objects, or with slices cut from the back, `stembase` takes up to 1.62 times the instructions of the plain
-// program, where 1.5 is the bar, and so 1.34.
+// of all: with a `for` over the reversed objects, or with slices cut from the back, `stembase` took up to 1.62 times the instructions of the plain
+// program, where 1.5 is the bar.
 fn last_with(objects: &[u64], end: usize, s: AttributeSet) -> Option<usize>
     requires { end ≤ length objects.now }
     ensures { (n : ℕ) → n ≤ 16 → s.bits < 2 ^ n → MatchOption result (NoneWith (objects_in n objects.now) (set_in n s.bits) 0 end) (LastWith (objects_in n objects.now) (set_in n s.bits) end) }
