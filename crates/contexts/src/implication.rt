@@ -37,7 +37,7 @@ impl Implication {
     }
 
     // Whether a set has all of the premise and lacks something of the conclusion, told by what is outside the set: a walk over many implications
-    // looks there once for each side.
+    // looks there once for each side. Nothing here uses it: the walk over a list makes these tests on the numbers as they stand.
     pub fn is_broken_outside(self, outside: AttributeSet) -> bool
         ensures { (n : ℕ) (s : Set) → length s ≡ n → outside.bits < 2 ^ n → set_in n outside.bits ≡ complement s → result ≡ not (respects s (implication_at n self)) }
     {

@@ -1,14 +1,14 @@
 -- Walks over a row of implications, and closing a set by repairing what it breaks. Assumes nothing.
-use Rattle.std.proofs.Common.{◌≡◌, ℕ, zero, suc, ◌+◌, ◌*◌, ◌/◌, ◌<◌, ◌≤◌, Bool, true, false, not, List, [], ◌∷◌, length, get_or, is_some, Some, None, Option, sym, refl, ap, ◌∙◌, inl, inr, arith, MatchOption}
+use Rattle.std.proofs.Common.{◌≡◌, ℕ, zero, suc, ◌+◌, ◌*◌, ◌/◌, ◌<◌, ◌≤◌, Bool, true, false, not, ◌||◌, List, [], ◌∷◌, length, get_or, is_some, Some, None, Option, sym, refl, ap, ◌∙◌, inl, inr, arith, MatchOption}
 use Rattle.std.proofs.ByRecursion.{has_get_or}
 use Rattle.std.proofs.lemmas.Bool.{both_ways, cases_Bool}
 use Rattle.std.specs.List.{ContainsAt}
 use Rattle.attributes.specs.Numbers.{set_in}
-use Rattle.attributes.specs.Sets.{Set, subset, missing}
+use Rattle.attributes.specs.Sets.{Set, complement, subset, missing}
 use Rattle.attributes.proofs.Numbers.{length_set_in}
 use Rattle.attributes.proofs.Sets.{subset_refl, subset_trans, join_left, join_right, join_least, length_join, missing_less}
 use Rattle.contexts.specs.Contexts.{Implication, respects}
-use Rattle.contexts.proofs.Holding.{breaks, respects_apply}
+use Rattle.contexts.proofs.Holding.{breaks, inside_test, respects_apply}
 use Rattle.implications.specs.Implications.{respects_all, Closure}
 use Rattle.implications.specs.Places.{no_implication, FirstBroken, Repaired}
 use Rattle.implications.specs.Values.{implications_in}
@@ -35,6 +35,20 @@ implication_is n (p ∷ (c ∷ row)) (suc k) h =
 -- a set that respects the implication at each place respects all
 pub respects_places : (s : Set) (is : List Implication) (k : ℕ) → length is ≤ k → ((j : ℕ) → j < k → respects s (get_or is j no_implication) ≡ true) → respects_all s is ≡ true
 respects_places s is k h all = has_respects s is (λ i m. ap (respects s) (sym (m.2 no_implication)) ∙ all m.0 (omega (arith, m.1)))
+
+-- a set has a side of the implication at a place if nothing of the number that stands for it is outside
+module _ (n : ℕ) (row : List ℕ) (k : ℕ) (s : Set) (o p : ℕ) (meets : Bool) (there : k < length row / 2) (wide : length s ≡ n) (outside : set_in n o ≡ complement s)
+    (told : meets ≡ not (subset (set_in n o) (complement (set_in n p)))) where
+  pub premise_inside : set_in n p ≡ set_in n (get_or row (2 * k) 0) → subset (get_or (implications_in n row) k no_implication).premise s ≡ not meets
+  premise_inside e = ap (λ (i : Implication). subset i.premise s) (implication_is n row k there) ∙ ap (λ (q : Set). subset q s) (sym e) ∙ inside_test n s o p meets wide outside told
+
+  pub conclusion_inside : set_in n p ≡ set_in n (get_or row (2 * k + 1) 0) → subset (get_or (implications_in n row) k no_implication).conclusion s ≡ not meets
+  conclusion_inside e = ap (λ (i : Implication). subset i.conclusion s) (implication_is n row k there) ∙ ap (λ (q : Set). subset q s) (sym e) ∙ inside_test n s o p meets wide outside told
+
+-- a set breaks an implication whose premise it has and whose conclusion it lacks
+pub breaks_from : (s : Set) (i : Implication) → subset i.premise s ≡ true → subset i.conclusion s ≡ false → respects s i ≡ false
+unfolding respects
+breaks_from s i p c = λ j. not (p j) || c j
 
 -- what a search for a broken implication says of the set
 pub respects_if_none : (is : List Implication) (s : Set) (found : Option ℕ) (none : Bool) → MatchOption found (respects_all s is ≡ true) (FirstBroken is s) → is_some found ≡ not none → respects_all s is ≡ none

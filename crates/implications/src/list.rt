@@ -34,20 +34,20 @@ impl<'a> Implications<'a> {
     }
 
     // The place of the first implication that a set breaks. This is the walk of every closing and search, so the numbers are tested as they stand: what
-    // is outside the set is among the n attributes. To read each implication by them, as `Iter` does, made closing take up to 2.6 times as long.
+    // is outside the set is among the n attributes. To read each implication by them, as `Iter` does, made closing take up to 2.6 times as long, and
+    // by `position` over the row's pairs this alone took up to 1.6 times as long.
     pub fn first_broken(&self, s: AttributeSet) -> Option<usize>
         ensures { MatchOption result (respects_all (set_in self.now.n.value s.bits) (said_by self.now) ≡ true) (FirstBroken (said_by self.now) (set_in self.now.n.value s.bits)) }
     {
         let outside = s.outside(self.n);
-        let (pairs, _) = self.numbers.as_chunks::<2>();
-        let is_broken = |[premise, conclusion]: &[u64; 2]| {
-            let implication = Implication {
-                premise: AttributeSet::of_number(*premise),
-                conclusion: AttributeSet::of_number(*conclusion),
-            };
-            implication.is_broken_outside(outside)
-        };
-        pairs.iter().position(is_broken)
+        for place in 0..self.numbers.len() / 2 {
+            if !outside.meets(AttributeSet::of_number(self.numbers[2 * place]))
+                && outside.meets(AttributeSet::of_number(self.numbers[2 * place + 1]))
+            {
+                return Some(place);
+            }
+        }
+        None
     }
 
     // The closure of a set: the least set that contains it and respects all implications.
@@ -92,7 +92,21 @@ impl<'a> Implications<'a> {
     fn broken(&self, s: AttributeSet) -> Option<Implication>
         ensures { MatchOption result (respects_all (set_in self.now.n.value s.bits) (said_by self.now) ≡ true) (IsFirstBroken self.now.n.value (said_by self.now) (set_in self.now.n.value s.bits)) }
     {
-        self.nth(self.first_broken(s)?)
+        let place = self.first_broken(s)?;
+        Some(self.implication_at(place))
+    }
+
+    // The implication at a place that the list has. `nth` would test the place again, and the walk that found it would have to count for that.
+    fn implication_at(&self, place: usize) -> Implication
+        requires { place < length self.now.numbers.now / 2 }
+        ensures value { implication_at self.now.n.value result ≡ slice_index_or (said_by self.now) place no_implication }
+        ensures premise { result.premise.bits < 2 ^ self.now.n.value }
+        ensures conclusion { result.conclusion.bits < 2 ^ self.now.n.value }
+    {
+        Implication {
+            premise: AttributeSet::lowest(self.n, self.numbers[2 * place]),
+            conclusion: AttributeSet::lowest(self.n, self.numbers[2 * place + 1]),
+        }
     }
 
     // Adds the conclusions of the implications whose premises are inside, once in the list's order. Nothing here uses it.

@@ -1,6 +1,9 @@
-use Rattle.implications.proofs.Turns.{first_broken_found}
+use Rattle.std.proofs.Common.{arith}
+use Rattle.implications.proofs.Repairs.{implications_length}
 use Rattle.implications.proofs.list.Implications.broken.Goals as goal
 
+pub implication_at-requires : goal.implication_at-requires
+implication_at-requires c = omega (arith, c.in_ok-place.ensures.inside, implications_length c.args.self.now.n.value c.args.self.now.numbers.now)
+
 pub returns : goal.returns
-returns c =
-    first_broken_found c.args.self.now.n.value c.args.self.now.numbers.now _ c.in_ok-first_broken.field-0 c.in_ok-first_broken.ensures c.nth.result c.nth.ensures.value c.nth.ensures.bound
+returns c = record { place = c.in_ok-place.place; broken = c.in_ok-place.ensures; value = c.implication_at.ensures.value; conclusion = c.implication_at.ensures.conclusion }

@@ -1,21 +1,58 @@
-use Rattle.std.proofs.Common.{◌≡◌, ℕ, true, false, length, rules}
-use Rattle.std.proofs.lemmas.Bool.{not-true, not-false}
-use Rattle.std.proofs.lemmas.Iterator.{IsFirst-from_position, YieldsList-from_slice}
-use borrow.Author.Tests.{tests}
+use Rattle.std.proofs.Common.{◌≡◌, ℕ, ◌≤◌, not, List, length, get_or, ap, ◌∙◌, arith, below_more}
+use Rattle.std.proofs.lemmas.Bool.{both_ways}
 use Rattle.attributes.specs.Numbers.{set_in}
-use Rattle.attributes.specs.Sets.{Set}
+use Rattle.attributes.specs.Sets.{Set, subset}
 use Rattle.attributes.proofs.Numbers.{length_set_in}
-use Rattle.implications.proofs.Turns.{Fares, broken_found}
+use Rattle.contexts.specs.Contexts.{Implication}
+use Rattle.contexts.proofs.Holding.{respects_from}
+use Rattle.implications.specs.Lists.{said_by}
+use Rattle.implications.specs.Places.{no_implication}
+use Rattle.implications.proofs.Repairs.{implications_length, respects_places, premise_inside, conclusion_inside, breaks_from}
 use Rattle.implications.proofs.list.Implications.first_broken.Goals as goal
+use Rattle.implications.proofs.list.Implications.first_broken.Goals.{else-not-meets-via-then-not-meets+else-meets, else-not-meets-via-else-not-meets}
+
+pub returns-then-meets : goal.returns-then-meets
+returns-then-meets c =
+    let n : ℕ = c.args.self.now.n.value in
+    let row : List ℕ = c.args.self.now.numbers.now in
+    let s : Set = set_in n c.args.s.bits in
+    let k : ℕ = c.loop-place.place in
+    let few : n ≤ 16 = omega (arith, c.args.self.now.n.few) in
+    let wide : length s ≡ n = length_set_in n c.args.s.bits in
+    let small = c.outside-outside.ensures.bound in
+    let outside = c.outside-outside.ensures.value in
+    let there = c.loop-place-test.true in
+    let premise = premise_inside n row k s _ _ _ there wide outside (c.meets.ensures n small) (c.of_number.ensures n few) in
+    let conclusion = conclusion_inside n row k s _ _ _ there wide outside (c.meets-then-not-meets.ensures n small) (c.of_number-then-not-meets.ensures n few) in
+    record {
+      inside = omega (arith, implications_length n row, there);
+      breaks = breaks_from s (get_or (said_by c.args.self.now) k no_implication) (premise ∙ ap not c.if-not-meets.true) (conclusion ∙ ap not c.if-meets.true);
+      before = c.loop-place.invariant;
+    }
+
+pub loop-place-preserved : goal.loop-place-preserved
+loop-place-preserved c =
+    let n : ℕ = c.args.self.now.n.value in
+    let row : List ℕ = c.args.self.now.numbers.now in
+    let s : Set = set_in n c.args.s.bits in
+    let k : ℕ = c.loop-place.place in
+    let i : Implication = get_or (said_by c.args.self.now) k no_implication in
+    let few : n ≤ 16 = omega (arith, c.args.self.now.n.few) in
+    let wide : length s ≡ n = length_set_in n c.args.s.bits in
+    let small = c.outside-outside.ensures.bound in
+    let outside = c.outside-outside.ensures.value in
+    let there = c.loop-place-test.true in
+    let premise = premise_inside n row k s _ _ _ there wide outside (c.meets.ensures n small) (c.of_number.ensures n few) in
+    below_more _ k c.loop-place.invariant
+    (elim c.else-not-meets.branch [
+      | else-not-meets-via-then-not-meets+else-meets w ↦
+          respects_from s i
+          (λ _. conclusion_inside n row k s _ _ _ there wide outside (w.meets-then-not-meets.ensures n small) (w.of_number-then-not-meets.ensures n few) ∙ ap not w.if-meets.false)
+      | else-not-meets-via-else-not-meets w ↦ respects_from s i (λ p. absurd (both_ways (subset i.premise s) (premise ∙ ap not w.if-not-meets.false) p))
+    ])
 
 pub returns : goal.returns
 returns c =
     let n : ℕ = c.args.self.now.n.value in
-    let s : Set = set_in n c.args.s.bits in
-    let wide : length s ≡ n = length_set_in n c.args.s.bits in
-    let outside = c.outside-outside.ensures.value in
-    let small = c.outside-outside.ensures.bound in
-    broken_found n c.args.self.now.numbers.now s c.as_chunks.result.0.now c.position.result c.as_chunks.ensures.front c.as_chunks.ensures.front_len
-    (IsFirst-from_position c.position.new.self _ _ (Fares n s false) (Fares n s true) c.position.ensures.ran
-    (YieldsList-from_slice c.as_chunks.result.0.now c.iter.ensures.rest)
-    (λ x q k. search (rules, tests, not-true, wide, outside, small)) (λ x q k. (search (rules, tests), search (rules, tests, not-false, wide, outside, small))))
+    respects_places (set_in n c.args.s.bits) (said_by c.args.self.now) c.loop-place.place
+    (omega (arith, implications_length n c.args.self.now.numbers.now, c.loop-place-test.false)) c.loop-place.invariant
