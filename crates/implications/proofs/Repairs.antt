@@ -37,13 +37,12 @@ pub respects_places : (s : Set) (is : List Implication) (k : ℕ) → length is 
 respects_places s is k h all = has_respects s is (λ i m. ap (respects s) (sym (m.2 no_implication)) ∙ all m.0 (omega (arith, m.1)))
 
 -- a set has a side of the implication at a place if nothing of the number that stands for it is outside
-module _ (n : ℕ) (row : List ℕ) (k : ℕ) (s : Set) (o p : ℕ) (meets : Bool) (there : k < length row / 2) (wide : length s ≡ n) (outside : set_in n o ≡ complement s)
-    (told : meets ≡ not (subset (set_in n o) (complement (set_in n p)))) where
-  pub premise_inside : set_in n p ≡ set_in n (get_or row (2 * k) 0) → subset (get_or (implications_in n row) k no_implication).premise s ≡ not meets
-  premise_inside e = ap (λ (i : Implication). subset i.premise s) (implication_is n row k there) ∙ ap (λ (q : Set). subset q s) (sym e) ∙ inside_test n s o p meets wide outside told
-
-  pub conclusion_inside : set_in n p ≡ set_in n (get_or row (2 * k + 1) 0) → subset (get_or (implications_in n row) k no_implication).conclusion s ≡ not meets
-  conclusion_inside e = ap (λ (i : Implication). subset i.conclusion s) (implication_is n row k there) ∙ ap (λ (q : Set). subset q s) (sym e) ∙ inside_test n s o p meets wide outside told
+pub side_inside : (n : ℕ) (row : List ℕ) (k : ℕ) (s : Set) (o p : ℕ) (meets : Bool) (side : Implication → Set) → k < length row / 2 → length s ≡ n → set_in n o ≡ complement s
+    → meets ≡ not (subset (set_in n o) (complement (set_in n p)))
+    → set_in n p ≡ side (record { premise = set_in n (get_or row (2 * k) 0); conclusion = set_in n (get_or row (2 * k + 1) 0) })
+    → subset (side (get_or (implications_in n row) k no_implication)) s ≡ not meets
+side_inside n row k s o p meets side there wide outside told is =
+    ap (λ (i : Implication). subset (side i) s) (implication_is n row k there) ∙ ap (λ (q : Set). subset q s) (sym is) ∙ inside_test n s o p meets wide outside told
 
 -- a set breaks an implication whose premise it has and whose conclusion it lacks
 pub breaks_from : (s : Set) (i : Implication) → subset i.premise s ≡ true → subset i.conclusion s ≡ false → respects s i ≡ false

@@ -7,7 +7,7 @@ use Rattle.contexts.specs.Contexts.{Implication}
 use Rattle.contexts.proofs.Holding.{respects_from}
 use Rattle.implications.specs.Lists.{said_by}
 use Rattle.implications.specs.Places.{no_implication}
-use Rattle.implications.proofs.Repairs.{implications_length, respects_places, premise_inside, conclusion_inside, breaks_from}
+use Rattle.implications.proofs.Repairs.{implications_length, respects_places, side_inside, breaks_from}
 use Rattle.implications.proofs.list.Implications.first_broken.Goals as goal
 use Rattle.implications.proofs.list.Implications.first_broken.Goals.{else-not-meets-via-then-not-meets+else-meets, else-not-meets-via-else-not-meets}
 
@@ -22,8 +22,8 @@ returns-then-meets c =
     let small = c.outside-outside.ensures.bound in
     let outside = c.outside-outside.ensures.value in
     let there = c.loop-place-test.true in
-    let premise = premise_inside n row k s _ _ _ there wide outside (c.meets.ensures n small) (c.of_number.ensures n few) in
-    let conclusion = conclusion_inside n row k s _ _ _ there wide outside (c.meets-then-not-meets.ensures n small) (c.of_number-then-not-meets.ensures n few) in
+    let premise = side_inside n row k s _ _ _ (λ (i : Implication). i.premise) there wide outside (c.meets.ensures n small) (c.of_number.ensures n few) in
+    let conclusion = side_inside n row k s _ _ _ (λ (i : Implication). i.conclusion) there wide outside (c.meets-then-not-meets.ensures n small) (c.of_number-then-not-meets.ensures n few) in
     record {
       inside = omega (arith, implications_length n row, there);
       breaks = breaks_from s (get_or (said_by c.args.self.now) k no_implication) (premise ∙ ap not c.if-not-meets.true) (conclusion ∙ ap not c.if-meets.true);
@@ -42,12 +42,12 @@ loop-place-preserved c =
     let small = c.outside-outside.ensures.bound in
     let outside = c.outside-outside.ensures.value in
     let there = c.loop-place-test.true in
-    let premise = premise_inside n row k s _ _ _ there wide outside (c.meets.ensures n small) (c.of_number.ensures n few) in
+    let premise = side_inside n row k s _ _ _ (λ (i : Implication). i.premise) there wide outside (c.meets.ensures n small) (c.of_number.ensures n few) in
     below_more _ k c.loop-place.invariant
     (elim c.else-not-meets.branch [
       | else-not-meets-via-then-not-meets+else-meets w ↦
           respects_from s i
-          (λ _. conclusion_inside n row k s _ _ _ there wide outside (w.meets-then-not-meets.ensures n small) (w.of_number-then-not-meets.ensures n few) ∙ ap not w.if-meets.false)
+          (λ _. side_inside n row k s _ _ _ (λ (i : Implication). i.conclusion) there wide outside (w.meets-then-not-meets.ensures n small) (w.of_number-then-not-meets.ensures n few) ∙ ap not w.if-meets.false)
       | else-not-meets-via-else-not-meets w ↦ respects_from s i (λ p. absurd (both_ways (subset i.premise s) (premise ∙ ap not w.if-not-meets.false) p))
     ])
 
